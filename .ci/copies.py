@@ -1,8 +1,10 @@
-"""Copies of an office: how many are kept over a clock that is moved, what is refused and leaves nothing, and how one is put
-back."""
+"""Copies of an office with its history: how many are kept over a clock that is moved, what is refused and leaves nothing, and how
+one is put back."""
+import hashlib
 import json
 import os
 import shutil
+import subprocess
 from datetime import date, timedelta
 
 from installed import CHIEF, FOUNDED, ask, end, files_in, run, serve, want
@@ -16,12 +18,18 @@ LATE = json.dumps({"name": "Lee", "role": "clerk", "token": "late3late3late3late
 
 
 def found(root):
-    """An office in the installed root, with the standard policy."""
+    """An office in the installed root with its history, and with the standard policy."""
     root.office.mkdir(parents=True)
     shutil.copy(root.path("usr/share/permit/policies/standard.toml"), root.office / "policy.toml")
-    words = ["init", "--db", "office.db", "--name", "Ada Chief", "--token", CHIEF, "--day", FOUNDED]
+    words = ["init", "--db", "office.db", "--history", "office.history", "--name", "Ada Chief", "--token", CHIEF, "--day", FOUNDED]
     founded = run(root.path("usr/bin/permit"), *words, cwd=root.office)
     want(founded == (0, "party 1\n"), f"founding: {founded}")
+
+
+def sound(parties, text):
+    """What is said of an office without parcels whose tables have all lines of its history."""
+    lines = text.read_bytes()
+    return f"sound parties {parties} parcels 0 files 0\nhistory lines {lines.count(10)} sha256 {hashlib.sha256(lines).hexdigest()}\n"
 
 
 class Clock:
@@ -50,7 +58,7 @@ def try_kept(root, folder):
     (copies / "note").touch()
     for number, day in enumerate(DAYS, 1):
         names.append(f"{number:06}-{day}")
-        wanted = f"kept {names[-1]}: sound parties 1 parcels 0 files 0\n"
+        wanted = f"kept {names[-1]}: {sound(1, root.office / 'office.history')}"
         if number > KEPT:
             wanted += f"removed {names[-1 - KEPT]}\n"
         said = keep(root, clock, day, root.office / "office.db", copies, KEPT)
@@ -58,6 +66,29 @@ def try_kept(root, folder):
         there = {path.name for path in copies.iterdir()}
         want(there == {*names[-KEPT:], "note"}, f"after the copy on {day} there are {sorted(there)}")
     try_refused(root, clock, copies)
+    try_other_offices(root, clock, folder)
+
+
+def try_other_offices(root, clock, folder):
+    """An office without a history is copied, and one whose history begins with a copy of it; one with another's history is refused."""
+    other, copies = folder / "other", folder / "copies-of-other"
+    other.mkdir()
+    copies.mkdir()
+    db, text = (shutil.copy(root.office / f"office.{end}", other / f"office.{end}") for end in ("db", "history"))
+    text.write_text(text.read_text().replace("Ada Chief", "Eva Chief"))
+    said = keep(root, clock, FIRST, db, copies, KEPT)
+    want(said == (1, "keep-backups: the new copy is refused, and is not kept: history: differs\n"), f"another's history: {said}")
+    want(not list(copies.iterdir()), "a copy with another's history is kept")
+    text.unlink()
+    said = keep(root, clock, FIRST, db, copies, KEPT)
+    want(said == (0, f"kept 000001-{FIRST}: sound parties 1 parcels 0 files 0\n"), f"an office without a history: {said}")
+    begun = run(root.path("usr/bin/permit"), "begin-history", "--db", db, "--history", text)
+    want(begun == (0, f"history begun {FOUNDED}\n"), f"a history that begins with a copy: {begun}")
+    shutil.copy(db, other / "office.begun")
+    said = keep(root, clock, FIRST, db, copies, KEPT)
+    want(said == (0, f"kept 000002-{FIRST}: {sound(1, text)}"), f"an office whose history begins with a copy: {said}")
+    there = files_in(copies / f"000002-{FIRST}")
+    want({"office.db", "office.history", "office.begun"} <= there, f"the copy of an office whose history begins with a copy: {sorted(there)}")
 
 
 def try_refused(root, clock, copies):
@@ -110,8 +141,9 @@ def try_refused_by_hand(root, office, copies):
 
 
 def try_restored(root, folder):
-    """A copy that was made while the office served is put back, and the office is as it was when it was made."""
-    db, copies = root.office / "office.db", folder / "restored"
+    """The database of a copy that was made while the office served is put back, and the history redoes what came after it; with
+    the copy's history the office is as it was when it was made."""
+    db, copies, permit = root.office / "office.db", folder / "restored", root.path("usr/bin/permit")
     serving, port = serve(root)
     try:
         added = ask(port, "POST", "/parties", CLERK)
@@ -124,19 +156,35 @@ def try_restored(root, folder):
     with db.open("r+b") as file:
         file.seek(0)
         file.write(bytes(4096))
-    sound = run(root.path("usr/bin/permit"), "check-db", "--db", copies / "office.db")
-    want(sound == (0, "sound parties 2 parcels 0 files 0\n"), f"check-db of the copy: {sound}")
-    damaged = run(root.path("usr/bin/permit"), "check-db", "--db", db)
+    checked = run(permit, "check-db", "--db", copies / "office.db", "--history", copies / "office.history")
+    want(checked == (0, sound(2, copies / "office.history")), f"check-db of the copy: {checked}")
+    damaged = run(permit, "check-db", "--db", db)
     want(damaged == (2, "database: damaged\n"), f"check-db of an office without its first page: {damaged}")
-    kept = root.office / "damaged"
+    put_back(root, copies, "damaged", "office.db")
+    after = '{"reason":"taken","refused":"not-admitted"}'
+    try_again(root, "history: redid 1 commands\n", (409, after), "the database alone")
+    put_back(root, copies, "later", "office.db", "office.history")
+    try_again(root, "", (200, '{"day":19723,"done":"add-staff","number":3}'), "the database and the history")
+
+
+def put_back(root, copies, aside, *names):
+    """Sets the office's files aside and puts those of the copy in their place, a database with its log."""
+    kept = root.office / aside
     kept.mkdir()
-    for name in ("office.db", "office.db-wal"):
-        (root.office / name).rename(kept / name)
-        shutil.copy(copies / name, root.office)
-    serving, port = serve(root)
+    for name in [each for name in names for each in ([name, f"{name}-wal"] if name.endswith(".db") else [name])]:
+        if (root.office / name).exists():
+            (root.office / name).rename(kept / name)
+        if (copies / name).exists():
+            shutil.copy(copies / name, root.office)
+
+
+def try_again(root, said, late, what):
+    """Serves what was put back: what it says first, and what it answers to the parties of before and after the copy."""
+    serving, port = serve(root, stderr=subprocess.PIPE)
     try:
-        again, late = ask(port, "POST", "/parties", CLERK), ask(port, "POST", "/parties", LATE)
-        want(again == (409, '{"reason":"taken","refused":"not-admitted"}'), f"the party of before the copy: {again}")
-        want(late == (200, '{"day":19723,"done":"add-staff","number":3}'), f"the party of after the copy: {late}")
+        again, later = ask(port, "POST", "/parties", CLERK), ask(port, "POST", "/parties", LATE)
+        want(again == (409, '{"reason":"taken","refused":"not-admitted"}'), f"{what}: the party of before the copy: {again}")
+        want(later == late, f"{what}: the party of after the copy: {later}")
     finally:
-        end(serving)
+        printed = end(serving)
+    want(printed == said, f"{what}: the program says {printed!r}")

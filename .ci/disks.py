@@ -5,6 +5,7 @@ import hashlib
 import http.client
 import json
 import os
+import re
 import shutil
 import signal
 import sqlite3
@@ -23,6 +24,10 @@ ROLE_OF_OFFICIAL = 4
 UNOPENED = (2, "", "database: store\n")
 UNREAD = (2, "", "history: store\n")
 REFUSED = (1, '{"refused":"store"}\n', "refused: store\n")
+# What an opening says that redid what the text of a history has beyond the tables.
+REDID = re.compile(r"^history: redid [1-9]\d* commands\n")
+# What the test of an office says of its history: how many of the text's lines give the tables, and their SHA-256.
+EVIDENCE = re.compile(r"history lines (\d+) sha256 ([0-9a-f]{64})\n")
 # What an office that is served ends with once its database is shut.
 SHUT = (1, "", "refused: store\n")
 
@@ -42,6 +47,12 @@ def run(*words, environment=None):
     """The program's status, below 0 where a signal ended it, and what it wrote to its two streams."""
     done = subprocess.run([PROGRAM, *map(str, words)], capture_output=True, text=True, timeout=120, env=environment)
     return done.returncode, done.stdout, done.stderr
+
+
+def run_with_history(*words, environment=None):
+    """The same of an office that may have a history, but for what its opening redid."""
+    status, out, err = run(*words, environment=environment)
+    return status, out, REDID.sub("", err)
 
 
 def init_words(db):
@@ -78,8 +89,17 @@ def added(number):
 
 
 def check_db(db):
-    """The test of the tables, and where there is a history whether they are its own."""
-    return run("check-db", "--db", db, *history_of(db))
+    """The test of the tables, and where there is a history whether they are its own. What it says of its lines is so."""
+    status, out, err = run("check-db", "--db", db, *history_of(db))
+    if status != 0 or not text_of(db).exists():
+        return status, out, err
+    sound, _, evidence = out.partition("\n")
+    found, text = EVIDENCE.fullmatch(evidence), text_of(db).read_bytes()
+    want(found is not None, True, f"the evidence in {out!r}")
+    lines = text.split(b"\n")[:int(found[1])]
+    want(found[2], hashlib.sha256(b"".join(line + b"\n" for line in lines)).hexdigest(), "the SHA-256 of the lines that give the tables")
+    want(int(found[1]) <= text.count(b"\n"), True, f"so many lines of {text.count(10)}: {found[1]}")
+    return status, f"{sound}\n", err
 
 
 class Office:

@@ -91,9 +91,9 @@ def ask(port, method, path, body=None):
     return answer.status, answer.read().decode()
 
 
-def serve(root, db="office.db", **more):
-    """The installed program, serving an office under the installed policy, and its port."""
-    words = ["serve", "--db", db, "--policy", "policy.toml", "--listen", "127.0.0.1:0", "--day", TODAY]
+def serve(root, **more):
+    """The installed program, serving the office with its history under the installed policy, and its port."""
+    words = ["serve", "--db", "office.db", "--history", "office.history", "--policy", "policy.toml", "--listen", "127.0.0.1:0", "--day", TODAY]
     serving = subprocess.Popen([root.path("usr/bin/permit"), *words], cwd=root.office, stdout=subprocess.PIPE, text=True, **more)
     found = re.fullmatch(r"listening 127\.0\.0\.1:(\d+)\n", serving.stdout.readline())
     if not found:
@@ -103,5 +103,6 @@ def serve(root, db="office.db", **more):
 
 
 def end(serving):
+    """Ends it. What it wrote to standard error, where that is kept."""
     serving.terminate()
-    serving.communicate(timeout=60)
+    return serving.communicate(timeout=60)[1]

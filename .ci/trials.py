@@ -7,7 +7,7 @@ from collections import namedtuple
 from pathlib import Path
 
 from disks import (OLD, OLD_FILES, REFUSED, SHUT, UNOPENED, UNREAD, Office, Wrong, add_words, added, asked, check_db, cleared, founded,
-                   init_words, kept, parcel, run, want, want_founding)
+                   init_words, kept, parcel, run, run_with_history, want, want_founding)
 
 FIRST = "A-0"  # the lot of the first parcel that an office has
 # The frames of a log that the library copies into the file before the next command, and the bytes of the log's header and
@@ -46,7 +46,16 @@ class Parcels:
         return db
 
     def judge(self, db, answered, extra):
-        """The database keeps what was there and what was answered as done, and at most so many of the refused beside."""
+        """The database keeps what was there and what was answered as done, and at most so many of the refused beside. So it does
+        once its history, if it has one, was redone."""
+        lots = self.judged(db, answered, extra)
+        if not self.has_history:
+            return lots
+        want(run_with_history("act", "GET", "/parcels/1", *asked(db))[::2], (0, ""), "an opening with the history")
+        return self.judged(db, answered, extra)
+
+    def judged(self, db, answered, extra):
+        """The lots that the database keeps beside those that were there."""
         office = kept(db)
         lots = {number: lot for number, lot in office.lots().items() if number not in self.held.lots()}
         unanswered = {number: lot for number, lot in lots.items() if answered.done.get(number) != lot}
@@ -76,7 +85,7 @@ class Acts(Parcels):
     def play(self, db, environment=None):
         done, refused, turns = {}, [], []
         for lot in self.lots:
-            got = run(*add_words(db, lot), environment=environment)
+            got = run_with_history(*add_words(db, lot), environment=environment)
             if got in (REFUSED, UNOPENED, UNREAD):
                 refused.append(lot)
             else:

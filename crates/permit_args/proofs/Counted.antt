@@ -8,10 +8,10 @@ use Rattle.clap.specs.Words.{Text}
 use Rattle.permit_args.specs.Plans.{IsCountOf}
 
 -- a word of a count is read as that count
-pub parsed : {E : Type 0} (greatest : ℕ) (text : Text) (r : Result ℕ E) (n : ℕ) → greatest < 2 ^ 32 → ParsesUnsigned 32 10 text r
+pub parsed : {E : Type 0} (bits greatest : ℕ) (text : Text) (r : Result ℕ E) (n : ℕ) → greatest < 2 ^ bits → greatest < 2 ^ 64 → ParsesUnsigned bits 10 text r
     → IsCountOf greatest text n → r ≡ Ok n
-parsed greatest text r n small parses is =
-    parse-decimal 32 n text r (omega (arith, is.most)) (omega (arith, is.most)) is.spelled parses
+parsed bits greatest text r n small within parses is =
+    parse-decimal bits n text r (omega (arith, is.most)) (omega (arith, is.most)) is.spelled parses
 
 pub not_read : {E : Type 0} (r : Result ℕ E) (e : E) (n : ℕ) → r ≡ Err e → r ≡ Ok n → ⊥
 not_read r e n failed read = cc

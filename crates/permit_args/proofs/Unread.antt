@@ -5,7 +5,7 @@ use Rattle.clap.specs.Words.{App, IsAmong, Kinds, Row, Text, fault_of, first_of,
 use Rattle.clap.specs.declared.error.kind.ErrorKind.{ErrorKind}
 use Rattle.clap.specs.declared.error.kind.ErrorKind.TheVariants.{OutOfMemory}
 use Rattle.permit_args.specs.Faults.{is_help, is_memory, IsFaultBy, IsFoundIn, IsParserFault, IsUnread, Refuses, Says}
-use Rattle.permit_args.specs.Blames.{name_of, Blames, BlamesPlace, IsTakenAt, Misses}
+use Rattle.permit_args.specs.Blames.{found_at, Blames, BlamesPlace, IsTakenAt, Misses}
 use Rattle.permit_args.specs.Lines.{invalid_line}
 use Rattle.permit_args.specs.Plans.{reader_of, IsTaken}
 use Rattle.permit_args.specs.declared.places.Place.{Place}
@@ -85,7 +85,7 @@ refused_without name rows IsOf Says fault refused part blames =
 -- the same of a place's value
 pub refused_at : {A B : Type 0} (place : Place) (rows : List Row) (value : Text) (IsOf : A → Type 0) (Says : Text → Type 0) (IsPart : B → Type 0)
     (fault : PlanFault) → Refuses IsPart (λ line. line ≡ invalid_line place value) fault → ((x : A) → IsOf x → (y : B) × IsPart y)
-    → first_of (name_of place) rows ≡ Some value → (IsTakenAt place value → (y : B) × IsPart y) → ((line : Text) → BlamesPlace place rows line → Says line)
+    → found_at place rows ≡ Some value → (IsTakenAt place value → (y : B) × IsPart y) → ((line : Text) → BlamesPlace place rows line → Says line)
     → Refuses IsOf Says fault
 refused_at place rows value IsOf Says IsPart fault refused part there taken blames =
     refused_part IsOf Says IsPart (λ line. line ≡ invalid_line place value) fault refused part (λ none line h. blames line (record {

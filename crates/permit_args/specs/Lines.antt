@@ -2,9 +2,11 @@
 use Rattle.std.specs.Prelude.{◌++◌, codes}
 use Rattle.clap.specs.Words.{Text}
 use Rattle.permit_args.specs.declared.places.Place.{Place}
-use Rattle.permit_args.specs.declared.places.Place.TheVariants.{Stage, Register, Workers, Connections, Record}
+use Rattle.permit_args.specs.declared.places.Place.TheVariants.{Stage, Register, Workers, Connections, Record, Lines, Sha256}
 use Rattle.permit_args.specs.declared.places.RecordKind.{RecordKind}
 use Rattle.permit_args.specs.declared.places.RecordKind.TheVariants.{File, Parcel, Party}
+use Rattle.permit_args.specs.declared.plan.Choice.{Choice}
+use Rattle.permit_args.specs.declared.plan.Choice.TheVariants as choice
 use Rattle.permit_args.specs.declared.plan.Clash.{Clash}
 use Rattle.permit_args.specs.declared.plan.Clash.TheVariants as clash
 
@@ -23,6 +25,8 @@ place_name Connections = codes "--connections <CONNECTIONS>"
 place_name (Record File) = codes "--file <N>"
 place_name (Record Parcel) = codes "--parcel <N>"
 place_name (Record Party) = codes "--party <N>"
+place_name Lines = codes "--verify <LINES> <SHA256>"
+place_name Sha256 = codes "--verify <LINES> <SHA256>"
 
 -- what is taken at a place
 abbrev pub taken_text : Place → Text
@@ -31,6 +35,8 @@ taken_text Register = codes "files, deadlines, inspections"
 taken_text Workers = codes "1 to 8"
 taken_text Connections = codes "1 to 99999"
 taken_text (Record kind) = codes "1 to 99999"
+taken_text Lines = codes "1 to 18446744073709551615"
+taken_text Sha256 = codes "64 hexadecimal digits in lower case"
 
 -- an example of it
 abbrev pub example_text : Place → Text
@@ -41,6 +47,8 @@ example_text Connections = codes "--connections 1000"
 example_text (Record File) = codes "--file 1"
 example_text (Record Parcel) = codes "--parcel 1"
 example_text (Record Party) = codes "--party 2"
+example_text Lines = codes "--verify 2 8e4ad670e47c05c90fb8f36b87c0fe417be8208108542e1427ab9f9bc402fc97"
+example_text Sha256 = codes "--verify 2 8e4ad670e47c05c90fb8f36b87c0fe417be8208108542e1427ab9f9bc402fc97"
 
 -- a value isn't taken at its place
 abbrev pub invalid_line : Place → Text → Text
@@ -81,6 +89,22 @@ no_table_line = codes "error: the following required arguments were not provided
 -- a copy of the database without the history that begins with it
 abbrev pub no_history_line : Text
 no_history_line = codes "error: the following required arguments were not provided:\n  --history <PATH>\n\nFor more information, try '--help'.\n"
+
+-- a history, and that none is to be kept
+abbrev pub two_histories_line : Text
+two_histories_line = codes "error: the argument '--history <PATH>' cannot be used with '--no-history'\n\nFor more information, try '--help'.\n"
+
+-- lines to verify without their digest
+abbrev pub no_digest_line : Text
+no_digest_line = codes "error: 2 values required for '--verify <LINES> <SHA256>' but 1 was provided\n\nFor more information, try '--help'.\n"
+
+-- lines to verify, and an option that chooses entries or names the database
+abbrev pub choice_line : Choice → Text
+choice_line choice.File = codes "error: the argument '--file <N>' cannot be used with '--verify <LINES> <SHA256>'\n\nFor more information, try '--help'.\n"
+choice_line choice.Parcel = codes "error: the argument '--parcel <N>' cannot be used with '--verify <LINES> <SHA256>'\n\nFor more information, try '--help'.\n"
+choice_line choice.Party = codes "error: the argument '--party <N>' cannot be used with '--verify <LINES> <SHA256>'\n\nFor more information, try '--help'.\n"
+choice_line choice.Since = codes "error: the argument '--since <DAY>' cannot be used with '--verify <LINES> <SHA256>'\n\nFor more information, try '--help'.\n"
+choice_line choice.Db = codes "error: the argument '--db <PATH>' cannot be used with '--verify <LINES> <SHA256>'\n\nFor more information, try '--help'.\n"
 
 -- no subcommand
 abbrev pub no_subcommand_line : Text

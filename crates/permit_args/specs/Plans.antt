@@ -1,17 +1,21 @@
 -- The subcommands as simple commands of the command line library, and the plan that their words give.
 use Rattle.std.specs.Prelude.{IsSome, ◌≡◌, List, [], ◌∷◌, ℕ, Bool, Option, None, Some, true, false, IfSome, IsSomeAnd, IsTrue, MatchOption, option_map, codes, if◌then◌else◌}
-use Rattle.std.specs.Prelude.{decimal, bytes_eq, ◌≤◌}
+use Rattle.std.specs.Prelude.{decimal, bytes_eq, option_and_then, slice_get, ◌≤◌, ◌^◌, ◌-◌}
 use Rattle.std.specs.Option.{option_map_or}
 use Rattle.std.specs.Borrow.{Bor}
 use Rattle.clap.specs.Simple.{new_shape}
-use Rattle.clap.specs.Words.{App, Row, Rule, Text, fault_of, first_of, matches_of, new_app, new_rule, with_rule, with_subcommand}
+use Rattle.clap.specs.Words.{App, Row, Rule, Text, all_of, fault_of, first_of, matches_of, new_app, new_rule, with_rule, with_subcommand}
 use Rattle.clap.specs.declared.builder.ArgAction.TheVariants.{Set, SetTrue}
 use Rattle.permit_base.specs.Limits.{most_records}
 use Rattle.permit_base.specs.Stages.{is_file_stage}
+use Rattle.permit_base.specs.Texts.{is_digest}
 use Rattle.permit_base.specs.Words.{register_word, stage_word}
 use Rattle.permit_base.specs.declared.words.Stage.{Stage}
+use Rattle.permit_args.specs.Keepings.{is_without, named_history}
 use Rattle.permit_args.specs.declared.plan.Check.{Check}
 use Rattle.permit_args.specs.declared.plan.Check.TheVariants.{Rules, Dead, Facts, Against, Table}
+use Rattle.permit_args.specs.declared.plan.Choice.{Choice}
+use Rattle.permit_args.specs.declared.plan.Choice.TheVariants as choice
 use Rattle.permit_args.specs.declared.plan.Clash.{Clash}
 use Rattle.permit_args.specs.declared.plan.Clash.TheVariants as clash
 use Rattle.permit_policy.specs.declared.pages.TableForm.{TableForm}
@@ -23,6 +27,7 @@ use Rattle.permit_args.specs.declared.plan.DayWords.{DayWords}
 use Rattle.permit_args.specs.declared.plan.HistoryPaths.{HistoryPaths}
 use Rattle.permit_args.specs.declared.plan.HistoryWords.{HistoryWords}
 use Rattle.permit_args.specs.declared.plan.InitWords.{InitWords}
+use Rattle.permit_args.specs.declared.plan.Keeping.{Keeping}
 use Rattle.permit_args.specs.declared.plan.RenewTokenWords.{RenewTokenWords}
 use Rattle.permit_args.specs.declared.plan.ReplayWords.{ReplayWords}
 use Rattle.permit_args.specs.declared.plan.TokenWords.{TokenWords}
@@ -34,6 +39,7 @@ use Rattle.permit_args.specs.declared.plan.RegisterWords.{RegisterWords}
 use Rattle.permit_args.specs.declared.plan.ImportWords.{ImportWords}
 use Rattle.permit_args.specs.declared.plan.ServeWords.{ServeWords}
 use Rattle.permit_args.specs.declared.plan.UpgradeWords.{UpgradeWords}
+use Rattle.permit_args.specs.declared.plan.VerifyWords.{VerifyWords}
 use Rattle.permit_args.specs.declared.plan.Subcommand.{Subcommand}
 use Rattle.permit_args.specs.declared.plan.Subcommand.TheVariants.{CheckPolicy, Init, Act, List as List', Register, Import, Serve, Upgrade, CheckDb, RenewToken, History, Replay, BeginHistory}
 use Rattle.permit_args.specs.declared.plan.Plan.{Plan}
@@ -48,6 +54,10 @@ optional_option name = record (new_rule name) { long = Some name; value_names = 
 -- an option with a value, which has to be there
 abbrev pub required_option : Text → Rule
 required_option name = record (optional_option name) { required = true }
+
+-- an option with two values, which may be left out
+abbrev pub pair_option : Text → Rule
+pair_option name = record (optional_option name) { value_names = 2 }
 
 -- an option without a value
 abbrev pub flag : Text → Rule
@@ -77,6 +87,14 @@ with_copy app = with_rule app (optional_option (codes "from"))
 abbrev pub with_paths : App → App
 with_paths app = with_copy (with_history app)
 
+-- the option for which the office is used without a history
+abbrev pub with_no_history : App → App
+with_no_history app = with_rule app (flag (codes "no-history"))
+
+-- the options for the history that the office keeps, or for none
+abbrev pub with_keeping : App → App
+with_keeping app = with_no_history (with_paths app)
+
 -- the options for the day
 abbrev pub with_days : App → App
 with_days app = with_rule (with_rule app (optional_option (codes "day"))) (optional_option (codes "zone"))
@@ -102,7 +120,7 @@ init_app = with_why (with_history (with_days (with_token (with_rule (with_rule (
 
 -- the subcommand that has the office serve one request
 unfoldable pub act_app : App
-act_app = with_rule (with_rule (with_rule (with_paths (with_office (new_app (codes "act"))))
+act_app = with_rule (with_rule (with_rule (with_keeping (with_office (new_app (codes "act"))))
     (required_word (codes "method"))) (required_word (codes "path"))) (optional_word (codes "body"))
 
 -- the subcommand that lists files
@@ -115,11 +133,11 @@ register_app = with_rule (with_office (new_app (codes "register"))) (required_wo
 
 -- the subcommand that imports parcels
 unfoldable pub import_app : App
-import_app = with_rule (with_paths (with_office (new_app (codes "import")))) (required_word (codes "file"))
+import_app = with_rule (with_keeping (with_office (new_app (codes "import")))) (required_word (codes "file"))
 
 -- the subcommand that serves the office
 unfoldable pub serve_app : App
-serve_app = with_why (with_rule (with_rule (with_rule (with_paths (with_days (with_rule (with_rule (new_app (codes "serve"))
+serve_app = with_why (with_rule (with_rule (with_rule (with_keeping (with_days (with_rule (with_rule (new_app (codes "serve"))
     (required_option (codes "db"))) (required_option (codes "policy")))))
     (required_option (codes "listen"))) (optional_option (codes "workers"))) (optional_option (codes "connections")))
 
@@ -130,23 +148,23 @@ check_db_app = with_why (with_copy (with_rule (with_rule (new_app (codes "check-
 
 -- the subcommand that upgrades a database
 unfoldable pub upgrade_app : App
-upgrade_app = with_why (with_rule (with_rule (new_app (codes "upgrade")) (required_option (codes "db"))) (optional_option (codes "history")))
+upgrade_app = with_why (with_no_history (with_rule (with_rule (new_app (codes "upgrade")) (required_option (codes "db"))) (optional_option (codes "history"))))
 
 -- the subcommand that replaces a party's token
 unfoldable pub renew_token_app : App
-renew_token_app = with_why (with_paths (with_token (with_rule (with_rule (new_app (codes "renew-token"))
+renew_token_app = with_why (with_keeping (with_token (with_rule (with_rule (new_app (codes "renew-token"))
     (required_option (codes "db"))) (required_option (codes "party")))))
 
 -- the subcommand that prints the entries of a history
 unfoldable pub history_app : App
-history_app = with_why (with_rule (with_rule (with_rule (with_rule (with_rule (new_app (codes "history"))
+history_app = with_why (with_rule (with_rule (with_rule (with_rule (with_rule (with_rule (with_rule (new_app (codes "history"))
     (required_option (codes "history"))) (optional_option (codes "file"))) (optional_option (codes "parcel")))
-    (optional_option (codes "party"))) (optional_option (codes "since")))
+    (optional_option (codes "party"))) (optional_option (codes "since"))) (optional_option (codes "db"))) (pair_option (codes "verify")))
 
 -- the subcommand that makes an office of a history, or brings one further to it
 unfoldable pub replay_app : App
-replay_app = with_why (with_copy (with_rule (with_rule (new_app (codes "replay"))
-    (required_option (codes "db"))) (required_option (codes "history"))))
+replay_app = with_why (with_rule (with_copy (with_rule (with_rule (new_app (codes "replay"))
+    (required_option (codes "db"))) (required_option (codes "history")))) (flag (codes "settled")))
 
 -- the subcommand that begins the history of an office
 unfoldable pub begin_history_app : App
@@ -177,6 +195,15 @@ IsTokenOf rows (File path) = (first_of (codes "token") rows ≡ None) × (first_
 abbrev pub ArePathsOf : List Row → Option HistoryPaths → Type 0
 ArePathsOf rows None = (first_of (codes "history") rows ≡ None) × (first_of (codes "from") rows ≡ None)
 ArePathsOf rows (Some paths) = (first_of (codes "history") rows ≡ Some paths.text.now) × (first_of (codes "from") rows ≡ text_of paths.copy)
+
+-- the file of a history that was found, where one was
+abbrev pub IsPathOf : List Row → Option (Bor Text) → Type 0
+IsPathOf rows path = first_of (codes "history") rows ≡ text_of path
+
+-- the history that was found, and whether none is to be kept: not both
+pub record IsKeepingOf {H : Type 0} (IsNamed : Option H → Type 0) (rows : List Row) (keeping : Keeping H) : Type 0 where
+  pub named : IsNamed (named_history keeping)
+  pub without : is_given (codes "no-history") rows ≡ is_without keeping
 
 -- what is said of a policy by what is given of four words: one at most is there, and without any its rules are counted
 abbrev pub IsCheckBy : Bool → Option Text → Option Text → Bool → Check → Type 0
@@ -232,7 +259,7 @@ pub record IsOfficeOf (rows : List Row) (words : OfficeWords) : Type 0 where
 -- the request that was found
 pub record IsActOf (rows : List Row) (words : ActWords) : Type 0 where
   pub office : IsOfficeOf rows words.office
-  pub history : ArePathsOf rows words.history
+  pub history : IsKeepingOf (ArePathsOf rows) rows words.history
   pub method : first_of (codes "method") rows ≡ Some words.method.now
   pub path : first_of (codes "path") rows ≡ Some words.path.now
   pub body : first_of (codes "body") rows ≡ text_of words.body
@@ -255,7 +282,7 @@ pub record IsRegisterOf (rows : List Row) (words : RegisterWords) : Type 0 where
 -- the import that was found
 pub record IsImportOf (rows : List Row) (words : ImportWords) : Type 0 where
   pub office : IsOfficeOf rows words.office
-  pub history : ArePathsOf rows words.history
+  pub history : IsKeepingOf (ArePathsOf rows) rows words.history
   pub file : first_of (codes "file") rows ≡ Some words.file.now
 
 -- a number from 1 to the greatest, as it is written out
@@ -290,7 +317,7 @@ pub record IsServeOf (rows : List Row) (words : ServeWords) : Type 0 where
   pub db : first_of (codes "db") rows ≡ Some words.db.now
   pub policy : first_of (codes "policy") rows ≡ Some words.policy.now
   pub days : IsDaysOf rows words.days
-  pub history : ArePathsOf rows words.history
+  pub history : IsKeepingOf (ArePathsOf rows) rows words.history
   pub listen : first_of (codes "listen") rows ≡ Some words.listen.now
   pub workers : IsWorkersOf rows words.workers
   pub connections : IsConnectionsOf rows words.connections
@@ -299,7 +326,7 @@ pub record IsServeOf (rows : List Row) (words : ServeWords) : Type 0 where
 -- the upgrade that was found
 pub record IsUpgradeOf (rows : List Row) (words : UpgradeWords) : Type 0 where
   pub db : first_of (codes "db") rows ≡ Some words.db.now
-  pub history : first_of (codes "history") rows ≡ text_of words.history
+  pub history : IsKeepingOf (IsPathOf rows) rows words.history
   pub why : is_given (codes "why") rows ≡ words.why
 
 -- the check that was found
@@ -317,12 +344,47 @@ pub record IsRenewalOf (rows : List Row) (words : RenewTokenWords) : Type 0 wher
   pub db : first_of (codes "db") rows ≡ Some words.db.now
   pub party : IsPartyOf rows words.party
   pub token : IsTokenOf rows words.token
-  pub history : ArePathsOf rows words.history
+  pub history : IsKeepingOf (ArePathsOf rows) rows words.history
   pub why : is_given (codes "why") rows ≡ words.why
 
 -- the number of a record that was found under a name, where one was
 abbrev pub IsRecordOf : Text → List Row → Option ℕ → Type 0
 IsRecordOf name rows number = IsOptionalCountOf most_records (first_of name rows) number
+
+-- the most lines of a history that are counted
+abbrev pub most_lines : ℕ
+most_lines = 2 ^ 64 - 1
+
+-- the second value of an option that takes two
+abbrev pub second_of : Text → List Row → Option Text
+second_of name rows = option_and_then (λ values. slice_get values 1) (all_of name rows)
+
+-- a digest, as it is written out
+pub record IsDigestOf (text digest : Text) : Type 0 where
+  pub same : digest ≡ text
+  pub within : IsTrue (is_digest digest)
+
+-- the name of an option that chooses entries of a history, or names the database beside it
+abbrev pub choice_name : Choice → Text
+choice_name choice.File = codes "file"
+choice_name choice.Parcel = codes "parcel"
+choice_name choice.Party = codes "party"
+choice_name choice.Since = codes "since"
+choice_name choice.Db = codes "db"
+
+-- no option chooses entries or names the database
+abbrev pub ChoosesNone : List Row → Type 0
+ChoosesNone rows = (choice : Choice) → first_of (choice_name choice) rows ≡ None
+
+-- the lines that were found and the digest that they are to have, and no option that chooses entries or names the database
+pub record IsVerifyBy (rows : List Row) (words : VerifyWords) : Type 0 where
+  pub lines : IsSomeAnd (first_of (codes "verify") rows) (λ text. IsCountOf most_lines text words.lines)
+  pub sha256 : IsSomeAnd (second_of (codes "verify") rows) (λ text. IsDigestOf text words.sha256)
+  pub alone : ChoosesNone rows
+
+abbrev pub IsVerifyOf : List Row → Option VerifyWords → Type 0
+IsVerifyOf rows None = first_of (codes "verify") rows ≡ None
+IsVerifyOf rows (Some words) = IsVerifyBy rows words
 
 -- the entries that were found
 pub record IsHistoryOf (rows : List Row) (words : HistoryWords) : Type 0 where
@@ -331,12 +393,15 @@ pub record IsHistoryOf (rows : List Row) (words : HistoryWords) : Type 0 where
   pub parcel : IsRecordOf (codes "parcel") rows words.parcel
   pub party : IsRecordOf (codes "party") rows words.party
   pub since : first_of (codes "since") rows ≡ text_of words.since
+  pub db : first_of (codes "db") rows ≡ text_of words.db
+  pub verify : IsVerifyOf rows words.verify
   pub why : is_given (codes "why") rows ≡ words.why
 
 -- the replay that was found
 pub record IsReplayOf (rows : List Row) (words : ReplayWords) : Type 0 where
   pub db : first_of (codes "db") rows ≡ Some words.db.now
   pub history : ArePathsOf rows (Some words.history)
+  pub settled : is_given (codes "settled") rows ≡ words.settled
   pub why : is_given (codes "why") rows ≡ words.why
 
 -- the words to begin a history that were found

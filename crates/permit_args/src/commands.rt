@@ -3,9 +3,9 @@
 ghost use Rattle.std.specs.Prelude.{◌≡◌, IfOk, Some, codes, false};
 ghost use Rattle.clap.specs.Words.{App, Rule, new_app, rule_of, with_rule, with_subcommand};
 ghost use Rattle.permit_args.specs.Commands.{Extends, IsCommandOf};
-ghost use Rattle.permit_args.specs.Plans.{act_app, asking_app, bare_app, begin_history_app, check_db_app, check_policy_app, flag, history_app, import_app, init_app, list_app, optional_option, optional_word, upgrade_app};
+ghost use Rattle.permit_args.specs.Plans.{act_app, asking_app, bare_app, begin_history_app, check_db_app, check_policy_app, flag, history_app, import_app, init_app, list_app, optional_option, optional_word, pair_option, upgrade_app};
 ghost use Rattle.permit_args.specs.Plans.{program_app, reader_of, register_app, renew_token_app, replay_app, required_option, required_word, serve_app, serving_app};
-ghost use Rattle.permit_args.specs.Plans.{with_copy, with_days, with_history, with_office, with_paths, with_token, with_why};
+ghost use Rattle.permit_args.specs.Plans.{with_copy, with_days, with_history, with_keeping, with_no_history, with_office, with_paths, with_token, with_why};
 
 use crate::plan::Subcommand;
 use clap::{Arg, ArgAction, Command};
@@ -139,6 +139,18 @@ impl<'a> Declaration<'a> {
         self.arg(option)
     }
 
+    /// Adds an option that takes two values, `--NAME ONE OTHER`, and may be left out.
+    fn pair(self, name: &'a str, values: &'a [&'a str; 2], help: &'a str) -> Declaration<'a>
+        ensures { Extends (λ app. with_rule app (pair_option name.now)) self.entry.command result.command }
+    {
+        let pair = Arg::new(self.alloc, name)
+            .long(name)
+            .value_names(values)
+            .help(help)
+            .action(ArgAction::Set);
+        self.arg(pair)
+    }
+
     /// Adds an option that takes no value.
     fn flag(self, name: &'a str, help: &'a str) -> Declaration<'a>
         ensures { Extends (λ app. with_rule app (flag name.now)) self.entry.command result.command }
@@ -178,7 +190,7 @@ impl<'a> Declaration<'a> {
         self.option(
             "history",
             "PATH",
-            "The path of a file in which the office's history is kept; without it none is kept",
+            "The path of a file in which the office's history is kept",
         )
     }
 
@@ -198,6 +210,23 @@ impl<'a> Declaration<'a> {
         ensures { Extends with_paths self.entry.command result.command }
     {
         self.history().copy()
+    }
+
+    /// Adds the option for which the office is used without a history.
+    fn no_history(self) -> Declaration<'a>
+        ensures { Extends with_no_history self.entry.command result.command }
+    {
+        self.flag(
+            "no-history",
+            "Uses the office without the history that lies beside its database",
+        )
+    }
+
+    /// Adds the options for the history that the office keeps, or for none.
+    fn keeping(self) -> Declaration<'a>
+        ensures { Extends with_keeping self.entry.command result.command }
+    {
+        self.paths().no_history()
     }
 
     /// Adds the options for the day.
@@ -308,7 +337,7 @@ fn act<'a>(alloc: Global) -> Result<Command<'a>, AllocError>
         "Example: permit act GET /files/1 --db office.db --policy policy.toml --token-file caller.token",
     )
     .office()
-    .paths()
+    .keeping()
     .required_word("method", "METHOD", "The request's method")
     .required_word("path", "PATH", "The request's path")
     .word("body", "BODY", "The request's body, in JSON")
@@ -367,7 +396,7 @@ fn import<'a>(alloc: Global) -> Result<Command<'a>, AllocError>
         "Example: permit import parcels.csv --db office.db --policy policy.toml --token-file caller.token",
     )
     .office()
-    .paths()
+    .keeping()
     .required_word(
         "file",
         "FILE",
@@ -390,7 +419,7 @@ fn serve<'a>(alloc: Global) -> Result<Command<'a>, AllocError>
     .database()
     .policy()
     .days()
-    .paths()
+    .keeping()
     .required_option(
         "listen",
         "LISTEN",
@@ -449,6 +478,7 @@ fn upgrade<'a>(alloc: Global) -> Result<Command<'a>, AllocError>
         "PATH",
         "The path of a new file, in which the office's history is kept from then on",
     )
+    .no_history()
     .why()
     .command
 }
@@ -467,7 +497,7 @@ fn renew_token<'a>(alloc: Global) -> Result<Command<'a>, AllocError>
     .database()
     .required_option("party", "N", "The party's number, 1 to 99999")
     .token()
-    .paths()
+    .keeping()
     .why()
     .command
 }
@@ -500,6 +530,16 @@ fn history<'a>(alloc: Global) -> Result<Command<'a>, AllocError>
         "DAY",
         "Only what was done from this day on, as YYYY-MM-DD",
     )
+    .option(
+        "db",
+        "PATH",
+        "The path of the database: how many of the last commands its tables lack is said on standard error",
+    )
+    .pair(
+        "verify",
+        &["LINES", "SHA256"],
+        "Says whether the first LINES lines still have this SHA-256, as check-db printed it",
+    )
     .why()
     .command
 }
@@ -518,6 +558,10 @@ fn replay<'a>(alloc: Global) -> Result<Command<'a>, AllocError>
     .database()
     .required_option("history", "PATH", "The path of a file that has the history")
     .copy()
+    .flag(
+        "settled",
+        "Replays the last line too, for a machine that takes over; else it is left out, since it alone may still be taken back",
+    )
     .why()
     .command
 }

@@ -1,21 +1,26 @@
 //! What the options and words of a subcommand say, as the command line library found them.
 
-ghost use Rattle.std.specs.Prelude.{◌≡◌, ℕ, List, IfErr, IfOk, IfSome, IsTrue, Some};
+ghost use Rattle.std.specs.Prelude.{◌≡◌, ℕ, List, IfErr, IfNone, IfOk, IfSome, IsSome, IsTrue, Some, true};
 ghost use Rattle.clap.specs.Words.{first_of, found_of, rows_of};
 ghost use Rattle.permit_base.specs.Limits.{most_records};
 ghost use Rattle.permit_base.specs.Stages.{is_file_stage};
 ghost use Rattle.permit_base.specs.Words.{register_word, stage_word};
-ghost use Rattle.permit_args.specs.Blames.{BlamesCheck, BlamesForm, BlamesOffice, BlamesPaths, BlamesPlace, BlamesToken, Misses};
-ghost use Rattle.permit_args.specs.Faults.{Refuses};
-ghost use Rattle.permit_args.specs.Lines.{clash_line, invalid_line, record_name};
-ghost use Rattle.permit_args.specs.Plans.{is_given, text_of, ArePathsOf, Clashes, IsCheckBy, IsCheckOf, IsConnectionsOf, IsCountOf, IsDaysOf, IsFormOf, IsOfficeOf, IsRecordOf, IsStageOf, IsTokenOf, IsWorkersOf};
+ghost use Rattle.permit_args.specs.Blames.{BlamesBoth, BlamesCheck, BlamesForm, BlamesKeeping, BlamesOffice, BlamesPaths, BlamesPlace, BlamesToken, BlamesVerify, Misses};
+ghost use Rattle.permit_args.specs.Faults.{Refuses, Says};
+ghost use Rattle.permit_args.specs.Lines.{choice_line, clash_line, invalid_line, record_name, two_histories_line};
+ghost use Rattle.permit_args.specs.Keepings.{is_without, named_history};
+ghost use Rattle.permit_args.specs.Plans.{choice_name, is_given, most_lines, second_of, text_of, ArePathsOf, ChoosesNone, Clashes, IsCheckBy, IsCheckOf, IsConnectionsOf, IsCountOf, IsDaysOf, IsDigestOf, IsFormOf, IsKeepingOf, IsOfficeOf, IsPathOf, IsRecordOf, IsStageOf, IsTokenOf, IsVerifyOf, IsWorkersOf};
 ghost use Rattle.permit_args.specs.declared.places.Place.TheVariants as place;
 
 use crate::places::{Place, RecordKind, bad, invalid, missing};
-use crate::plan::{Check, Clash, DayWords, HistoryPaths, OfficeWords, PlanFault, TokenWords};
+use crate::plan::{
+    Check, Choice, Clash, DayWords, HistoryPaths, Keeping, OfficeWords, PlanFault, TokenWords,
+    VerifyWords,
+};
 use clap::ArgMatches;
 use permit_base::limits::MOST_RECORDS;
 use permit_base::request::FileStage;
+use permit_base::values::Digest;
 use permit_base::words::{RegisterKind, Stage, Word};
 use permit_policy::TableForm;
 use std::alloc::Global;
@@ -47,6 +52,13 @@ pub(crate) fn required<'a>(
         Some(text) => Ok(text),
         None => Err(missing(alloc, name)),
     }
+}
+
+/// The second value of an option that takes two.
+fn second<'a>(matches: &ArgMatches<'a>, name: &str) -> Option<&'a str>
+    ensures { second_of name.now (rows_of (found_of matches.now)) ≡ text_of result }
+{
+    matches.get_raw(name)?.get(1).copied()
 }
 
 /// Whether an option without a value is given.
@@ -203,6 +215,104 @@ pub(crate) fn record(
     }
 }
 
+/// How many lines a word says, as it is written out.
+fn lines(alloc: Global, text: &str) -> Result<u64, PlanFault>
+    ensures number { IfOk result (IsCountOf most_lines text.now) }
+    ensures refused { IfErr result (Refuses (IsCountOf most_lines text.now) (λ line. line ≡ invalid_line place.Lines text.now)) }
+{
+    let Ok(number) = text.parse::<u64>() else {
+        return Err(invalid(alloc, Place::Lines, text));
+    };
+    let spelled = format!(in alloc; "{number}")?;
+    if spelled.as_str() == text && 1 <= number {
+        Ok(number)
+    } else {
+        Err(invalid(alloc, Place::Lines, text))
+    }
+}
+
+/// The digest that a word is.
+fn sha256(alloc: Global, text: &str) -> Result<Digest, PlanFault>
+    ensures digest { IfOk result (IsDigestOf text.now) }
+    ensures refused { IfErr result (Refuses (IsDigestOf text.now) (λ line. line ≡ invalid_line place.Sha256 text.now)) }
+{
+    match Digest::read(text) {
+        Some(digest) => Ok(digest),
+        None => Err(invalid(alloc, Place::Sha256, text)),
+    }
+}
+
+impl Choice {
+    /// The line that names the option beside `--verify`.
+    fn line(self) -> &'static str
+        ensures { result.now ≡ choice_line self }
+    {
+        match self {
+            Choice::File => {
+                "error: the argument '--file <N>' cannot be used with '--verify <LINES> <SHA256>'\n\nFor more information, try '--help'.\n"
+            }
+            Choice::Parcel => {
+                "error: the argument '--parcel <N>' cannot be used with '--verify <LINES> <SHA256>'\n\nFor more information, try '--help'.\n"
+            }
+            Choice::Party => {
+                "error: the argument '--party <N>' cannot be used with '--verify <LINES> <SHA256>'\n\nFor more information, try '--help'.\n"
+            }
+            Choice::Since => {
+                "error: the argument '--since <DAY>' cannot be used with '--verify <LINES> <SHA256>'\n\nFor more information, try '--help'.\n"
+            }
+            Choice::Db => {
+                "error: the argument '--db <PATH>' cannot be used with '--verify <LINES> <SHA256>'\n\nFor more information, try '--help'.\n"
+            }
+        }
+    }
+}
+
+/// An option that chooses entries of a history or names the database beside it, where one is given.
+fn chosen(matches: &ArgMatches<'_>) -> Option<Choice>
+    ensures given { IfSome result (λ choice. IsSome (first_of (choice_name choice) (rows_of (found_of matches.now)))) }
+    ensures none { IfNone result (ChoosesNone (rows_of (found_of matches.now))) }
+{
+    if value(matches, "file").is_some() {
+        Some(Choice::File)
+    } else if value(matches, "parcel").is_some() {
+        Some(Choice::Parcel)
+    } else if value(matches, "party").is_some() {
+        Some(Choice::Party)
+    } else if value(matches, "since").is_some() {
+        Some(Choice::Since)
+    } else if value(matches, "db").is_some() {
+        Some(Choice::Db)
+    } else {
+        None
+    }
+}
+
+/// The lines with which a history is to begin still; no option that chooses entries or names the database is given beside them.
+pub(crate) fn verify(
+    alloc: Global,
+    matches: &ArgMatches<'_>,
+) -> Result<Option<VerifyWords>, PlanFault>
+    ensures verify { IfOk result (IsVerifyOf (rows_of (found_of matches.now))) }
+    ensures refused { IfErr result (Refuses (IsVerifyOf (rows_of (found_of matches.now))) (BlamesVerify (rows_of (found_of matches.now)))) }
+{
+    let Some(count) = value(matches, "verify") else {
+        return Ok(None);
+    };
+    let Some(digest) = second(matches, "verify") else {
+        return Err(bad(
+            alloc,
+            "error: 2 values required for '--verify <LINES> <SHA256>' but 1 was provided\n\nFor more information, try '--help'.\n",
+        ));
+    };
+    if let Some(choice) = chosen(matches) {
+        return Err(bad(alloc, choice.line()));
+    }
+    Ok(Some(VerifyWords {
+        lines: lines(alloc, count)?,
+        sha256: sha256(alloc, digest)?,
+    }))
+}
+
 impl Clash {
     /// The line that names the two words.
     fn line(self) -> &'static str
@@ -307,5 +417,57 @@ pub(crate) fn paths<'a>(
             alloc,
             "error: the following required arguments were not provided:\n  --history <PATH>\n\nFor more information, try '--help'.\n",
         )),
+    }
+}
+
+/// What is said of the history that is kept, by what is given of two words, or none where both are.
+fn keeping_by<H: Drop>(history: Option<H>, without: bool) -> Option<Keeping<H>>
+    ensures keeping { IfSome result (λ keeping. (named_history keeping ≡ history) × (is_without keeping ≡ without)) }
+    ensures both { IfNone result (IsSome history × (without ≡ true)) }
+{
+    match (history, without) {
+        (None, false) => Some(Keeping::Unsaid),
+        (None, true) => Some(Keeping::Without),
+        (Some(history), false) => Some(Keeping::With(history)),
+        (Some(_), true) => None,
+    }
+}
+
+/// Bad words: a history is named, and none is to be kept.
+fn both_said(alloc: Global) -> PlanFault
+    ensures { Says two_histories_line result }
+{
+    bad(
+        alloc,
+        "error: the argument '--history <PATH>' cannot be used with '--no-history'\n\nFor more information, try '--help'.\n",
+    )
+}
+
+/// The files of the history that the office keeps, or that none is kept.
+pub(crate) fn keeping<'a>(
+    alloc: Global,
+    matches: &ArgMatches<'a>,
+) -> Result<Keeping<HistoryPaths<'a>>, PlanFault>
+    ensures found { IfOk result (IsKeepingOf (ArePathsOf (rows_of (found_of matches.now))) (rows_of (found_of matches.now))) }
+    ensures refused { IfErr result (Refuses (IsKeepingOf (ArePathsOf (rows_of (found_of matches.now))) (rows_of (found_of matches.now))) (BlamesKeeping (rows_of (found_of matches.now)))) }
+{
+    let paths = paths(alloc, matches)?;
+    match keeping_by(paths, is_given(matches, "no-history")) {
+        Some(keeping) => Ok(keeping),
+        None => Err(both_said(alloc)),
+    }
+}
+
+/// The file in which the history of an office begins, or that none is kept.
+pub(crate) fn new_keeping<'a>(
+    alloc: Global,
+    matches: &ArgMatches<'a>,
+) -> Result<Keeping<&'a str>, PlanFault>
+    ensures found { IfOk result (IsKeepingOf (IsPathOf (rows_of (found_of matches.now))) (rows_of (found_of matches.now))) }
+    ensures refused { IfErr result (Refuses (IsKeepingOf (IsPathOf (rows_of (found_of matches.now))) (rows_of (found_of matches.now))) (BlamesBoth (rows_of (found_of matches.now)))) }
+{
+    match keeping_by(value(matches, "history"), is_given(matches, "no-history")) {
+        Some(keeping) => Ok(keeping),
+        None => Err(both_said(alloc)),
     }
 }

@@ -41,6 +41,10 @@ pub(crate) enum Place {
     Connections,
     /// The number of a file, a parcel or a party.
     Record(RecordKind),
+    /// How many lines of a history are verified.
+    Lines,
+    /// The digest that they are to have.
+    Sha256,
 }
 
 impl Place {
@@ -56,6 +60,7 @@ impl Place {
             Place::Record(RecordKind::File) => "--file <N>",
             Place::Record(RecordKind::Parcel) => "--parcel <N>",
             Place::Record(RecordKind::Party) => "--party <N>",
+            Place::Lines | Place::Sha256 => "--verify <LINES> <SHA256>",
         }
     }
 
@@ -70,6 +75,8 @@ impl Place {
             Place::Register => "files, deadlines, inspections",
             Place::Workers => "1 to 8",
             Place::Connections | Place::Record(_) => "1 to 99999",
+            Place::Lines => "1 to 18446744073709551615",
+            Place::Sha256 => "64 hexadecimal digits in lower case",
         }
     }
 
@@ -85,6 +92,9 @@ impl Place {
             Place::Record(RecordKind::File) => "--file 1",
             Place::Record(RecordKind::Parcel) => "--parcel 1",
             Place::Record(RecordKind::Party) => "--party 2",
+            Place::Lines | Place::Sha256 => {
+                "--verify 2 8e4ad670e47c05c90fb8f36b87c0fe417be8208108542e1427ab9f9bc402fc97"
+            }
         }
     }
 }

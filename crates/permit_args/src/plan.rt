@@ -1,8 +1,10 @@
 //! What the program is to do, or why it does nothing.
 
 ghost use Rattle.std.specs.Prelude.{◌≡◌};
+ghost use Rattle.permit_args.specs.Keepings.{named_history};
 
 use permit_base::request::FileStage;
+use permit_base::values::Digest;
 use permit_base::words::RegisterKind;
 use permit_policy::TableForm;
 use std::alloc::AllocError;
@@ -124,6 +126,29 @@ pub struct HistoryPaths<'a> {
     pub copy: Option<&'a str>,
 }
 
+/// What is said of the history that an office keeps.
+#[derive(Clone, Copy, PartialEq, Drop)]
+pub enum Keeping<H> {
+    /// Nothing: none is kept, and none may lie beside the database.
+    Unsaid,
+    /// None is kept, whatever lies beside the database.
+    Without,
+    /// This one is kept.
+    With(H),
+}
+
+impl<H> Keeping<H> {
+    /// The history that is named.
+    pub fn named(self) -> Option<H>
+        ensures { result ≡ named_history self }
+    {
+        match self {
+            Keeping::With(history) => Some(history),
+            Keeping::Unsaid | Keeping::Without => None,
+        }
+    }
+}
+
 /// Who founds an office, where and when.
 #[derive(Clone, Copy, PartialEq, Drop)]
 pub struct InitWords<'a> {
@@ -161,8 +186,8 @@ pub struct OfficeWords<'a> {
 pub struct ActWords<'a> {
     /// The office that is asked.
     pub office: OfficeWords<'a>,
-    /// The files of the office's history; without them none is kept.
-    pub history: Option<HistoryPaths<'a>>,
+    /// The files of the office's history.
+    pub history: Keeping<HistoryPaths<'a>>,
     /// The request's method.
     pub method: &'a str,
     /// The request's path.
@@ -194,8 +219,8 @@ pub struct RegisterWords<'a> {
 pub struct ImportWords<'a> {
     /// The office that is asked.
     pub office: OfficeWords<'a>,
-    /// The files of the office's history; without them none is kept.
-    pub history: Option<HistoryPaths<'a>>,
+    /// The files of the office's history.
+    pub history: Keeping<HistoryPaths<'a>>,
     /// The path of the file of records.
     pub file: &'a str,
 }
@@ -209,8 +234,8 @@ pub struct ServeWords<'a> {
     pub policy: &'a str,
     /// The day of all requests; without a date the clock is asked at each of them.
     pub days: DayWords<'a>,
-    /// The files of the office's history; without them none is kept.
-    pub history: Option<HistoryPaths<'a>>,
+    /// The files of the office's history.
+    pub history: Keeping<HistoryPaths<'a>>,
     /// The address on which connections are taken: a host or its number, and a port.
     pub listen: &'a str,
     /// How many workers serve connections, each one at a time: 1 to 8.
@@ -226,8 +251,8 @@ pub struct ServeWords<'a> {
 pub struct UpgradeWords<'a> {
     /// The database's path.
     pub db: &'a str,
-    /// The path of the new file in which the office's history is begun once it is upgraded; without one none is begun.
-    pub history: Option<&'a str>,
+    /// The path of the new file in which the office's history is begun once it is upgraded.
+    pub history: Keeping<&'a str>,
     /// Whether a failure is explained.
     pub why: bool,
 }
@@ -252,10 +277,19 @@ pub struct RenewTokenWords<'a> {
     pub party: u32,
     /// The party's new token.
     pub token: TokenWords<'a>,
-    /// The files of the office's history; without them none is kept.
-    pub history: Option<HistoryPaths<'a>>,
+    /// The files of the office's history.
+    pub history: Keeping<HistoryPaths<'a>>,
     /// Whether a failure is explained.
     pub why: bool,
+}
+
+/// The first lines of a history as they once were.
+#[derive(Clone, Copy, PartialEq, Drop)]
+pub struct VerifyWords {
+    /// How many lines, 1 to 18446744073709551615.
+    pub lines: u64,
+    /// Their SHA-256.
+    pub sha256: Digest,
 }
 
 /// Which history is printed, and which of its entries: those of which all holds that is given.
@@ -271,6 +305,10 @@ pub struct HistoryWords<'a> {
     pub party: Option<u32>,
     /// The date from which on the entries are, not yet read.
     pub since: Option<&'a str>,
+    /// The database whose tables are looked for in the text.
+    pub db: Option<&'a str>,
+    /// The lines that it is to begin with still, in place of entries: none of these is chosen beside it, and no database is named.
+    pub verify: Option<VerifyWords>,
     /// Whether a failure is explained.
     pub why: bool,
 }
@@ -282,6 +320,8 @@ pub struct ReplayWords<'a> {
     pub db: &'a str,
     /// The files of the history.
     pub history: HistoryPaths<'a>,
+    /// Whether its last line is replayed too, which alone may still be taken back.
+    pub settled: bool,
     /// Whether a failure is explained.
     pub why: bool,
 }
@@ -295,6 +335,16 @@ pub struct BeginHistoryWords<'a> {
     pub history: &'a str,
     /// Whether a failure is explained.
     pub why: bool,
+}
+
+/// An option that chooses entries of a history or names the database beside it: none is given with lines to verify.
+#[derive(Clone, Copy)]
+pub(crate) enum Choice {
+    File,
+    Parcel,
+    Party,
+    Since,
+    Db,
 }
 
 /// Why words give no plan.

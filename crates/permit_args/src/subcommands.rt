@@ -8,8 +8,8 @@ ghost use Rattle.permit_args.specs.Plans.{IsActOf, IsBeginningOf, IsCheckDbOf, I
 ghost use Rattle.permit_args.specs.declared.plan.Subcommand.TheVariants as subcommand;
 
 use crate::found::{
-    check, connections, days, form, is_given, kind, number, office, paths, record, required, stage,
-    token, value, workers,
+    check, connections, days, form, is_given, keeping, kind, new_keeping, number, office, paths,
+    record, required, stage, token, value, verify, workers,
 };
 use crate::places::RecordKind;
 use crate::plan::{
@@ -58,7 +58,7 @@ pub(crate) fn act<'a>(alloc: Global, matches: &ArgMatches<'a>) -> Result<ActWord
 {
     Ok(ActWords {
         office: office(alloc, matches)?,
-        history: paths(alloc, matches)?,
+        history: keeping(alloc, matches)?,
         method: required(alloc, matches, "method")?,
         path: required(alloc, matches, "path")?,
         body: value(matches, "body"),
@@ -101,7 +101,7 @@ pub(crate) fn import<'a>(
 {
     Ok(ImportWords {
         office: office(alloc, matches)?,
-        history: paths(alloc, matches)?,
+        history: keeping(alloc, matches)?,
         file: required(alloc, matches, "file")?,
     })
 }
@@ -118,7 +118,7 @@ pub(crate) fn serve<'a>(
         db: required(alloc, matches, "db")?,
         policy: required(alloc, matches, "policy")?,
         days: days(matches),
-        history: paths(alloc, matches)?,
+        history: keeping(alloc, matches)?,
         listen: required(alloc, matches, "listen")?,
         workers: workers(alloc, matches)?,
         connections: connections(alloc, matches)?,
@@ -136,7 +136,7 @@ pub(crate) fn upgrade<'a>(
 {
     Ok(UpgradeWords {
         db: required(alloc, matches, "db")?,
-        history: value(matches, "history"),
+        history: new_keeping(alloc, matches)?,
         why: is_given(matches, "why"),
     })
 }
@@ -169,7 +169,7 @@ pub(crate) fn renew_token<'a>(
         db: required(alloc, matches, "db")?,
         party: number(alloc, text, RecordKind::Party)?,
         token: token(alloc, matches)?,
-        history: paths(alloc, matches)?,
+        history: keeping(alloc, matches)?,
         why: is_given(matches, "why"),
     })
 }
@@ -188,6 +188,8 @@ pub(crate) fn history<'a>(
         parcel: record(alloc, matches, RecordKind::Parcel)?,
         party: record(alloc, matches, RecordKind::Party)?,
         since: value(matches, "since"),
+        db: value(matches, "db"),
+        verify: verify(alloc, matches)?,
         why: is_given(matches, "why"),
     })
 }
@@ -206,6 +208,7 @@ pub(crate) fn replay<'a>(
             text: required(alloc, matches, "history")?,
             copy: value(matches, "from"),
         },
+        settled: is_given(matches, "settled"),
         why: is_given(matches, "why"),
     })
 }

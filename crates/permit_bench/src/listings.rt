@@ -5,6 +5,7 @@ use crate::office::{digest_of, policy_at};
 use anyhow::{Result, anyhow};
 use permit_base::request::{Filter, Request};
 use permit_base::values::{Day, Digest};
+use permit_office::log::NoLog;
 use permit_office::office::Office;
 use permit_office::reply::Reply;
 use permit_sql::store::SqlStore;
@@ -55,7 +56,7 @@ fn office_over<S: Store + Drop>(
     store: S,
     policy: &str,
 ) -> Result<Office<S>> {
-    match Office::open(store, policy_at(rt, policy)?) {
+    match Office::open(store, policy_at(rt, policy)?, NoLog) {
         Ok(office) => Ok(office),
         Err(_) => Err(anyhow!("no office")),
     }

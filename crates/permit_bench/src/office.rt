@@ -5,6 +5,7 @@ use permit_base::digests::digest;
 use permit_base::request::Request;
 use permit_base::values::{Day, Digest, Lot, PartyId, Text, Token};
 use permit_base::words::Role;
+use permit_office::log::NoLog;
 use permit_office::office::Office;
 use permit_office::reply::Reply;
 use permit_policy::Policy;
@@ -91,7 +92,7 @@ pub fn policy_at(rt: &(impl Files + AllocGlobal), path: &str) -> Result<Policy> 
 pub fn founded(alloc: Global, policy: &str) -> Result<Office<PlainStore>> {
     let store = store(alloc)?;
     let policy = policy_of(alloc, policy)?;
-    match Office::open(store, policy) {
+    match Office::open(store, policy, NoLog) {
         Ok(office) => Ok(office),
         Err(_) => Err(anyhow!("no office")),
     }

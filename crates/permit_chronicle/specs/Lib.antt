@@ -1,3 +1,4 @@
 pub mod Lines
 pub mod Wanted
 pub mod Telling
+pub mod Evidence

@@ -4,11 +4,13 @@
 //! the others; `permit_replay` does.
 #![tactic(auto)]
 
+mod evidence;
 mod fault;
 mod line;
 mod roles;
 mod telling;
 pub mod wanted;
 
+pub use evidence::{evidence_text, lacks_text, verified_text};
 pub use fault::ChronicleFault;
 pub use telling::tell;

@@ -1,41 +1,36 @@
 -- What a plan that succeeds comes to, whatever the disk and the clock give.
-use Rattle.std.specs.Prelude.{◌≡◌, ◌++◌, ℕ, Bool, List, Option, Some, Ok, Err, IfSome, IfNone, IsTrue, length, string_bytes}
-use Rattle.permit_base.specs.Actions.{action_of}
-use Rattle.permit_base.specs.declared.request.Asked.{Asked}
-use Rattle.permit_base.specs.declared.words.RegisterKind.{RegisterKind}
+use Rattle.std.specs.Prelude.{◌≡◌, ◌++◌, ℕ, Bool, List, Option, None, Some, IfSome, IfNone, IsTrue, length, string_bytes}
+use Rattle.std.specs.Borrow.{Bor}
 use Rattle.jiff.specs.Placed.{IsPosixZone}
 use Rattle.jiff_tz.specs.declared.timezone.TimeZone.{TimeZone}
 use Rattle.permit_days.specs.Dates.{IsTextOf}
 use Rattle.permit_model.specs.Facts.{Facts}
 use Rattle.permit_model.specs.Policy.{Policy, decision}
 use Rattle.permit_policy.specs.Explained.{explanation}
-use Rattle.permit_office.specs.declared.reply.Reply.{Reply}
-use Rattle.permit_http.specs.declared.error.WireError.TheVariants as error
-use Rattle.permit_answer.specs.declared.answer.Answer.TheVariants as answer
-use Rattle.permit_import.specs.Importing.{EndsOf, TellsCauses}
-use Rattle.permit_import.specs.Outcomes.{outcomes_of}
-use Rattle.permit_import.specs.Records.{Fields}
 use Rattle.permit_args.specs.Checks.{TellsDead, decided_line, rules_line, tried_lines}
 use Rattle.permit_args.specs.FactsText.{facts_in, pieces}
 use Rattle.permit_args.specs.declared.plan.ActWords.{ActWords}
 use Rattle.permit_args.specs.declared.plan.Check.{Check}
 use Rattle.permit_args.specs.declared.plan.Check.TheVariants as check
+use Rattle.permit_args.specs.declared.plan.CheckDbWords.{CheckDbWords}
 use Rattle.permit_args.specs.declared.plan.DayWords.{DayWords}
+use Rattle.permit_args.specs.declared.plan.HistoryPaths.{HistoryPaths}
+use Rattle.permit_args.specs.declared.plan.HistoryWords.{HistoryWords}
 use Rattle.permit_args.specs.declared.plan.Plan.{Plan}
 use Rattle.permit_args.specs.declared.plan.Plan.TheVariants as plan
 use Rattle.permit_args.specs.declared.plan.RegisterWords.{RegisterWords}
-use Rattle.permit_subcommands.specs.Answering.{AreReadAs}
+use Rattle.permit_args.specs.declared.plan.VerifyWords.{VerifyWords}
 use Rattle.permit_subcommands.specs.Days.{IsClockDay, zone_of}
-use Rattle.permit_subcommands.specs.Listings.{WritesSome}
 use Rattle.permit_subcommands.specs.Requests.{body_of, request_text}
 use Rattle.permit_subcommands.specs.Tokens.{IsTokenOf}
 use Rattle.permit_sockets.specs.Listening.{SaysListening}
-use Rattle.permit_cli.specs.declared.outcome.Outcome.{Outcome}
-use Rattle.permit_cli.specs.declared.outcome.Outcome.TheVariants as outcome
-use Rattle.permit_cli.specs.declared.question.Question.{Question}
-use Rattle.permit_cli.specs.declared.question.Question.TheVariants as question
 use Rattle.permit_chronicle.specs.Telling.{WritesLines as TellsLines, no_roles}
 use Rattle.permit_chronicle.specs.declared.wanted.Wanted.{Wanted}
+use Rattle.permit_database.specs.Doing.{IsAnswerTo, IsBegin, IsCheck, IsImported, IsListing, IsRegistered, IsReplay, IsToldOf, IsUpgrade}
+use Rattle.permit_database.specs.Doing.{SaysCauses, SaysOpening}
+use Rattle.permit_database.specs.declared.outcome.Outcome.{Outcome}
+use Rattle.permit_database.specs.declared.outcome.Outcome.TheVariants as outcome
+use Rattle.permit_database.specs.declared.question.Question.{Question}
 use Rattle.permit_cli.specs.Wanting.{Wants}
 
 -- the clock's day in the zone of a rule
@@ -46,52 +41,15 @@ IsClockDayIn rule day = (zone : TimeZone) × IsPosixZone rule zone × IsClockDay
 abbrev pub IsRunDay : DayWords → ℕ → Type 0
 IsRunDay words day = IfSome words.day (λ date. IsTextOf day date.now) × IfNone words.day (IsClockDayIn (zone_of words) day)
 
--- ---- what is reported of a question
-
--- the answer to what the bytes ask, with the day, or their fault
-abbrev pub IsAnswerTo : ℕ → List ℕ → Outcome → Type 0
-IsAnswerTo day request (outcome.Answered (answer.Replied reply action on)) =
-    (asked : Asked) × AreReadAs request (Ok (Some asked)) × (action ≡ action_of asked.request) × (on ≡ day)
-IsAnswerTo day request (outcome.Answered (answer.Fault why)) = AreReadAs request (Err (error.Fault why))
-IsAnswerTo day request _ = ⊥
-
-abbrev pub IsListing : Outcome → Type 0
-IsListing (outcome.Listed listing) = Unit {0}
-IsListing _ = ⊥
-
--- the register of some files is written
-abbrev pub IsRegistered : RegisterKind → ℕ → Option (List ℕ) → Option (List ℕ) → Outcome → Type 0
-IsRegistered kind day before after done = (done ≡ outcome.Registered) × WritesSome kind day before after (Ok tt)
-
--- the lines of some records and their counts are written, which are reported
-abbrev pub IsImported : Option (List ℕ) → Option (List ℕ) → Outcome → Type 0
-IsImported before after (outcome.Imported tally) =
-    (left : Option (List ℕ)) × (rows : List Fields) × (replies : List Reply) × EndsOf left before after (Ok tally) rows (outcomes_of rows replies)
-IsImported before after _ = ⊥
-
--- what is reported of a question to some office on the day, and written on the way
-abbrev pub IsToldOf : {R : Type 0} → ℕ → Question R → Option (List ℕ) → Option (List ℕ) → Outcome → Type 0
-IsToldOf day (question.Serve request) before after done = IsAnswerTo day (string_bytes request) done × (after ≡ before)
-IsToldOf day (question.List token filter) before after done = IsListing done × (after ≡ before)
-IsToldOf day (question.Register token kind) before after done = IsRegistered kind day before after done
-IsToldOf day (question.Import token path records why) before after done = IsImported before after done
-
--- the same on the day of a run
+-- what is reported of a question on the day of a run, and written on the way
 abbrev pub IsToldOnRunDay : {R : Type 0} → DayWords → Question R → Option (List ℕ) → Option (List ℕ) → Outcome → Type 0
 IsToldOnRunDay words asked before after done = (day : ℕ) × IsRunDay words day × IsToldOf day asked before after done
 
 -- ---- what is said on standard error on the way
 
--- why records are refused, where that is asked for: the lines of some records, or a prefix of them
-abbrev pub SaysCauses : Bool → Option (List ℕ) → Option (List ℕ) → Type 0
-SaysCauses asked before after = (rows : List Fields) × (replies : List Reply) × TellsCauses asked before after (outcomes_of rows replies)
-
--- the same where an office is asked something: nothing, but for an import
-abbrev pub SaysOf : {R : Type 0} → Question R → Option (List ℕ) → Option (List ℕ) → Type 0
-SaysOf (question.Serve request) before after = after ≡ before
-SaysOf (question.List token filter) before after = after ≡ before
-SaysOf (question.Register token kind) before after = after ≡ before
-SaysOf (question.Import token path records why) before after = SaysCauses why before after
+-- of an import: first how many commands are redone, where there is a history, and then why records are refused
+abbrev pub SaysImport : {H : Type 0} → Option H → Bool → Option (List ℕ) → Option (List ℕ) → Type 0
+SaysImport history why before after = (opened : Option (List ℕ)) × SaysOpening history before opened × SaysCauses why opened after
 
 -- ---- what is reported of a plan
 
@@ -108,25 +66,6 @@ abbrev pub IsPolicyChecked : Check → Outcome → Type 0
 IsPolicyChecked check (outcome.Checked text) = Says check (string_bytes text)
 IsPolicyChecked check _ = ⊥
 
-abbrev pub IsUpgrade : Outcome → Type 0
-IsUpgrade (outcome.Upgraded files) = Unit {0}
-IsUpgrade _ = ⊥
-
--- sound tables, or a place at which they aren't, or differ from those of a history, where one is asked for
-abbrev pub IsCheck : Bool → Outcome → Type 0
-IsCheck why (outcome.Sound desk) = Unit {0}
-IsCheck why (outcome.Unsound fault) = IsTrue why
-IsCheck why (outcome.Differing place) = IsTrue why
-IsCheck why _ = ⊥
-
-abbrev pub IsBegin : Outcome → Type 0
-IsBegin (outcome.Begun day) = Unit {0}
-IsBegin _ = ⊥
-
-abbrev pub IsReplay : Outcome → Type 0
-IsReplay (outcome.Replayed brought) = Unit {0}
-IsReplay _ = ⊥
-
 -- what comes of the words of `act`, for the caller of the token that they name, and of `register`, on the day of the run
 abbrev pub ActsAs : ActWords → Option (List ℕ) → Option (List ℕ) → Outcome → Type 0
 ActsAs words before after done = (token : List ℕ) × IsTokenOf words.office.token token × (day : ℕ) × IsRunDay words.office.days day
@@ -142,6 +81,27 @@ ListsAs before after done = IsListing done × (after ≡ before)
 abbrev pub ServesAs : Option (List ℕ) → Option (List ℕ) → Outcome → Type 0
 ServesAs before after done = (done ≡ outcome.Ended) × SaysListening before after
 
+-- what comes of the words of `check-db`: where a history is named, sound tables have the evidence of its lines
+abbrev pub ChecksBy : Option HistoryPaths → Bool → Outcome → Type 0
+ChecksBy None why done = IsCheck why done
+ChecksBy (Some history) why (outcome.SoundBeside desk evidence) = Unit {0}
+ChecksBy (Some history) why (outcome.Unsound fault) = IsTrue why
+ChecksBy (Some history) why (outcome.Differing place) = IsTrue why
+ChecksBy (Some history) why _ = ⊥
+
+abbrev pub ChecksAs : CheckDbWords → Outcome → Type 0
+ChecksAs words done = ChecksBy words.history words.why done
+
+-- what is reported of entries that are written: nothing more, or how many of the commands the tables of a database lack that is named
+abbrev pub IsTelling : Option (Bor (List ℕ)) → Outcome → Type 0
+IsTelling None done = done ≡ outcome.Told
+IsTelling (Some db) done = (lacking : ℕ) × (done ≡ outcome.ToldBeside lacking)
+
+-- what comes of the words of `history`: lines that are as they were, where that is asked, and else the entries
+abbrev pub TellsBy : Option VerifyWords → HistoryWords → Option (List ℕ) → Option (List ℕ) → Outcome → Type 0
+TellsBy (Some verify) words before after done = (done ≡ outcome.Verified verify.lines) × (after ≡ before)
+TellsBy None words before after done = IsTelling words.db done × ((wanted : Wanted) × Wants words wanted × TellsLines wanted no_roles before after)
+
 -- what a plan that succeeds comes to, and what is written on the way
 abbrev pub ComesTo : Plan → Option (List ℕ) → Option (List ℕ) → Outcome → Type 0
 ComesTo plan.Name before after done = (done ≡ outcome.Name) × (after ≡ before)
@@ -153,9 +113,8 @@ ComesTo (plan.Register words) before after done = RegistersAs words before after
 ComesTo (plan.Import words) before after done = IsImported before after done
 ComesTo (plan.Serve words) before after done = ServesAs before after done
 ComesTo (plan.Upgrade words) before after done = IsUpgrade done × (after ≡ before)
-ComesTo (plan.CheckDb words) before after done = IsCheck words.why done × (after ≡ before)
-ComesTo (plan.History words) before after done =
-    (done ≡ outcome.Told) × ((wanted : Wanted) × Wants words wanted × TellsLines wanted no_roles before after)
+ComesTo (plan.CheckDb words) before after done = ChecksAs words done × (after ≡ before)
+ComesTo (plan.History words) before after done = TellsBy words.verify words before after done
 ComesTo (plan.RenewToken words) before after done = (done ≡ outcome.Renewed words.party) × (after ≡ before)
 ComesTo (plan.Replay words) before after done = IsReplay done × (after ≡ before)
 ComesTo (plan.BeginHistory words) before after done = IsBegin done × (after ≡ before)

@@ -1,21 +1,16 @@
 -- Which failures each plan may come to, whatever its files, the disk and the clock give, and what is written before them.
 use Rattle.std.specs.Prelude.{◌≡◌, ◌⊎◌, ℕ, false, List, Option, None, Err, IsSomeAnd}
 use Rattle.std.specs.Borrow.{Bor}
+use Rattle.sqlite.specs.declared.error.Error.{Error}
+use Rattle.sqlite.specs.declared.error.Error.TheVariants as error
+use Rattle.sqlite.specs.declared.error.ErrorCode.TheVariants as code
 use Rattle.permit_base.specs.Texts.{is_token}
-use Rattle.permit_base.specs.declared.refusal.Reason.TheVariants as reason
-use Rattle.permit_base.specs.declared.refusal.Refusal.{Refusal}
-use Rattle.permit_import.specs.Importing.{EndsOf}
-use Rattle.permit_import.specs.Outcomes.{outcomes_of}
-use Rattle.permit_import.specs.Records.{Fields}
-use Rattle.permit_import.specs.Refusals.{refused_by}
-use Rattle.permit_import.specs.declared.fault.ImportFault.{ImportFault}
-use Rattle.permit_import.specs.declared.refused.Refused.TheVariants as refused
 use Rattle.permit_import.specs.declared.refused.RefusalWord.TheVariants as word
-use Rattle.permit_office.specs.declared.reply.Reply.{Reply}
 use Rattle.permit_policy.specs.PolicyText.{meaning, Means}
 use Rattle.permit_policy.specs.declared.fault.PolicyError.{PolicyError}
 use Rattle.permit_store.specs.declared.store.OpenError.TheVariants as opening
 use Rattle.permit_args.specs.FactsText.{facts_in, pieces}
+use Rattle.permit_args.specs.Keepings.{named_history}
 use Rattle.permit_args.specs.declared.plan.ActWords.{ActWords}
 use Rattle.permit_args.specs.declared.plan.Check.{Check}
 use Rattle.permit_args.specs.declared.plan.Check.TheVariants as check
@@ -24,6 +19,8 @@ use Rattle.permit_args.specs.declared.plan.HistoryPaths.{HistoryPaths}
 use Rattle.permit_args.specs.declared.plan.HistoryWords.{HistoryWords}
 use Rattle.permit_args.specs.declared.plan.ImportWords.{ImportWords}
 use Rattle.permit_args.specs.declared.plan.InitWords.{InitWords}
+use Rattle.permit_args.specs.declared.plan.Keeping.{Keeping}
+use Rattle.permit_args.specs.declared.plan.Keeping.TheVariants.{Unsaid}
 use Rattle.permit_args.specs.declared.plan.OfficeWords.{OfficeWords}
 use Rattle.permit_args.specs.declared.plan.Plan.{Plan}
 use Rattle.permit_args.specs.declared.plan.Plan.TheVariants as plan
@@ -32,20 +29,21 @@ use Rattle.permit_args.specs.declared.plan.RenewTokenWords.{RenewTokenWords}
 use Rattle.permit_args.specs.declared.plan.ServeWords.{ServeWords}
 use Rattle.permit_args.specs.declared.plan.TokenWords.{TokenWords}
 use Rattle.permit_subcommands.specs.Days as days
-use Rattle.permit_subcommands.specs.Failures.{against_failure, plain, policy_failure, IsFailureOfImport, IsUnheard, IsUnread}
+use Rattle.permit_subcommands.specs.Failures.{against_failure, plain, policy_failure, IsUnread}
 use Rattle.permit_subcommands.specs.Founders as founders
 use Rattle.permit_subcommands.specs.Listings.{WritesSome}
 use Rattle.permit_subcommands.specs.Requests as requests
 use Rattle.permit_subcommands.specs.Tokens.{IsTokenFailure, IsTokenOf}
 use Rattle.permit_subcommands.specs.declared.failure.Failure.{Failure}
 use Rattle.permit_subcommands.specs.declared.failure.Failure.TheVariants as failure
-use Rattle.permit_cli.specs.Asked.{IsRefusedCaller}
-use Rattle.permit_cli.specs.Doing.{IsRunDay}
-use Rattle.permit_cli.specs.Served.{SaysWhere}
-use Rattle.permit_cli.specs.declared.question.Question.{Question}
-use Rattle.permit_cli.specs.declared.question.Question.TheVariants as question
+use Rattle.permit_subcommands.specs.declared.failure.HistoryFailure.TheVariants as history
 use Rattle.permit_chronicle.specs.Telling.{WritesSome as TellsSome, no_roles}
 use Rattle.permit_chronicle.specs.declared.wanted.Wanted.{Wanted}
+use Rattle.permit_database.specs.Asked.{IsRefusedCaller}
+use Rattle.permit_database.specs.Failing.{FailsOf, FailsToListen, IsOfHistory, IsRefusal, IsUnfounded, IsUnrenewed, IsUnusable, StopsImport}
+use Rattle.permit_database.specs.Served.{SaysWhere}
+use Rattle.permit_database.specs.declared.question.Question.{Question}
+use Rattle.permit_cli.specs.Doing.{IsRunDay}
 use Rattle.permit_cli.specs.Wanting.{Wants}
 
 -- ---- of a policy
@@ -68,36 +66,16 @@ IsFactsFailure check.Table why = ⊥
 IsFactsFailure (check.Against path) why = IsAgainstFailure path.now why
 IsFactsFailure (check.Facts words) why = (why ≡ failure.Facts) × (facts_in (pieces 44 words.now) ≡ None)
 
--- ---- of a database
+-- ---- of a database and of a history
 
--- a call failed, or memory ran out
-abbrev pub IsOfStore : Failure → Type 0
-IsOfStore why = (why ≡ failure.Database opening.Store) ⊎ (why ≡ plain word.Store)
+-- why a file isn't opened, by the library's error: memory ran out, it holds no database or a damaged one, or a call failed
+abbrev pub opening_failure : Error → Failure
+opening_failure (error.SqliteFailure code.OutOfMemory) = plain word.Store
+opening_failure (error.SqliteFailure code.NotADatabase) = failure.Database opening.Damaged
+opening_failure (error.SqliteFailure code.DatabaseCorrupt) = failure.Database opening.Damaged
+opening_failure _ = failure.Database opening.Store
 
--- a file isn't opened: it holds no database or a damaged one, or a call failed
-abbrev pub IsUnopened : Failure → Type 0
-IsUnopened why = (why ≡ failure.Database opening.Damaged) ⊎ IsOfStore why
-
--- its tables can't be used: they aren't sound, or of another version, or a call failed
-abbrev pub IsUnusable : Failure → Type 0
-IsUnusable why = (why ≡ failure.Database opening.Version) ⊎ IsUnopened why
-
--- no office is founded in it: there are tables in it, or a call failed
-abbrev pub IsUnfounded : Failure → Type 0
-IsUnfounded why = (why ≡ failure.Database opening.Exists) ⊎ IsUnopened why
-
--- no token is renewed: there is no such party, a party has the token, or the tables can't be used
-abbrev pub IsUnrenewed : Failure → Type 0
-IsUnrenewed why = (why ≡ plain word.Record) ⊎ ((why ≡ failure.Refused (refused.NotAdmitted reason.Taken)) ⊎ IsUnusable why)
-
--- ---- of a history
-
--- the file of a history can't be used, or isn't the office's, or memory ran out
-abbrev pub IsOfHistory : Failure → Type 0
-IsOfHistory (failure.History why) = Unit {0}
-IsOfHistory why = why ≡ plain word.Store
-
--- its file can't be read, or the copy with which it begins, where one is named
+-- the file of a history can't be read, or the copy with which it begins, where one is named
 abbrev pub AreUnread : HistoryPaths → Failure → Type 0
 AreUnread paths why = IsUnread paths.text.now why ⊎ IsSomeAnd paths.copy (λ copy. IsUnread copy.now why)
 
@@ -105,31 +83,24 @@ AreUnread paths why = IsUnread paths.text.now why ⊎ IsSomeAnd paths.copy (λ c
 abbrev pub IsUnkept : Option HistoryPaths → Failure → Type 0
 IsUnkept history why = IsSomeAnd history (λ paths. IsOfHistory why ⊎ AreUnread paths why)
 
+-- nothing is said of a history, and one lies beside the database, or memory ran out for its path
+abbrev pub IsUnused : {H : Type 0} → Keeping H → Failure → Type 0
+IsUnused Unsaid why = (why ≡ failure.History history.Unused) ⊎ (why ≡ plain word.Store)
+IsUnused _ why = ⊥
+
+-- the history that is named can't be used, or one lies beside the database that isn't
+abbrev pub IsUnkeptBy : Keeping HistoryPaths → Failure → Type 0
+IsUnkeptBy keeping why = IsUnkept (named_history keeping) why ⊎ IsUnused keeping why
+
+-- a history that lies beside the database, or the copy with which it begins, can't be used, or memory ran out
+abbrev pub IsUnfinished : Failure → Type 0
+IsUnfinished why = IsOfHistory why ⊎ ((paths : HistoryPaths) × AreUnread paths why)
+
 -- no history is begun in a file, where one is named
 abbrev pub IsUnbegun : Option (Bor (List ℕ)) → Failure → Type 0
 IsUnbegun history why = IsSomeAnd history (λ path. IsOfHistory why)
 
 -- ---- of what is asked of an office
-
--- the office refuses
-abbrev pub IsRefusal : Failure → Type 0
-IsRefusal why = (refusal : Refusal) × (why ≡ failure.Refused (refused_by refusal))
-
--- an import stops before its end, and what is written of its lines
-abbrev pub StopsImport : List ℕ → Option (List ℕ) → Option (List ℕ) → Failure → Type 0
-StopsImport path before after why = (fault : ImportFault) × IsFailureOfImport path fault why × (left : Option (List ℕ)) × (rows : List Fields)
-    × (replies : List Reply) × EndsOf left before after (Err fault) rows (outcomes_of rows replies)
-
--- some office that is asked on the day fails so; of a register and an import a prefix may be written
-abbrev pub FailsOf : {R : Type 0} → ℕ → Question R → Option (List ℕ) → Option (List ℕ) → Failure → Type 0
-FailsOf day (question.Serve request) before after why = (why ≡ plain word.Store) × (after ≡ before)
-FailsOf day (question.List token filter) before after why = IsRefusal why × (after ≡ before)
-FailsOf day (question.Register token kind) before after why = WritesSome kind day before after (Err why)
-FailsOf day (question.Import token path records asked) before after why = StopsImport path.now before after why
-
--- the same, or its database can't be used
-abbrev pub FailsIn : {R : Type 0} → ℕ → Question R → Option (List ℕ) → Option (List ℕ) → Failure → Type 0
-FailsIn day asked before after why = (IsUnusable why × (after ≡ before)) ⊎ FailsOf day asked before after why
 
 -- the words name no office that can be asked: no day, no policy or no database
 abbrev pub IsUnasked : OfficeWords → Failure → Type 0
@@ -139,6 +110,11 @@ IsUnasked words why = days.IsRefusedFor words.days why ⊎ (IsPolicyFailure word
 abbrev pub FailsOnRunDay : {R : Type 0} → OfficeWords → Question R → Option (List ℕ) → Option (List ℕ) → Failure → Type 0
 FailsOnRunDay words asked before after why =
     (IsUnasked words why × (after ≡ before)) ⊎ ((day : ℕ) × IsRunDay words.days day × FailsOf day asked before after why)
+
+-- the same of one with its history, where one is named, which may be unusable
+abbrev pub FailsToAsk : {R : Type 0} → OfficeWords → Keeping HistoryPaths → Question R → Option (List ℕ) → Option (List ℕ) → Failure → Type 0
+FailsToAsk words keeping asked before after why =
+    FailsOnRunDay words asked before after why ⊎ (IsUnkeptBy keeping why × (after ≡ before))
 
 -- the words name no caller: no token can be read, or what they name is none
 abbrev pub IsUncalled : TokenWords → Failure → Type 0
@@ -182,10 +158,6 @@ FailsToImport words before after why =
     ((IsUncalled words.office.token why ⊎ (IsUnread words.file.now why ⊎ IsUnasked words.office why)) × (after ≡ before))
     ⊎ StopsImport words.file.now before after why
 
--- the serving fails once the database can be used: the address can't be listened on, or the output fails
-abbrev pub FailsToListen : List ℕ → Failure → Type 0
-FailsToListen address why = IsUnheard address why ⊎ (why ≡ failure.Output)
-
 abbrev pub FailsToServe : ServeWords → Failure → Type 0
 FailsToServe words why = days.IsRefusedFor words.days why
     ⊎ (IsPolicyFailure words.policy.now why ⊎ (IsUnusable why ⊎ FailsToListen words.listen.now why))
@@ -198,24 +170,27 @@ IsNoToken words why = (token : List ℕ) × IsTokenOf words token × (why ≡ pl
 abbrev pub FailsToRenew : RenewTokenWords → Failure → Type 0
 FailsToRenew words why = IsTokenFailure words.token why ⊎ (IsNoToken words.token why ⊎ IsUnrenewed why)
 
--- the day from which on entries are wanted is refused, or the history can't be read, or the output fails
+-- the day from which on entries are wanted is refused, or the history can't be read, or the output fails, or the database that is named
+-- can't be used
 abbrev pub FailsToTell : HistoryWords → Failure → Type 0
-FailsToTell words why = (why ≡ failure.Day) ⊎ ((IsOfHistory why ⊎ IsUnread words.history.now why) ⊎ (why ≡ failure.Output))
+FailsToTell words why = (why ≡ failure.Day) ⊎ ((IsOfHistory why ⊎ IsUnread words.history.now why)
+    ⊎ ((why ≡ failure.Output) ⊎ IsSomeAnd words.db (λ db. IsUnusable why)))
 
 -- which failures a plan may come to, and what is written before
 abbrev pub FailsAs : Plan → Option (List ℕ) → Option (List ℕ) → Failure → Type 0
 FailsAs plan.Name before after why = ⊥
 FailsAs (plan.CheckPolicy words) before after why = FailsToCheck words why × (after ≡ before)
 FailsAs (plan.Init words) before after why = (FailsToFound words why ⊎ IsUnbegun words.history why) × (after ≡ before)
-FailsAs (plan.Act words) before after why = (FailsToAct words why ⊎ IsUnkept words.history why) × (after ≡ before)
+FailsAs (plan.Act words) before after why = (FailsToAct words why ⊎ IsUnkeptBy words.history why) × (after ≡ before)
 FailsAs (plan.List words) before after why = FailsToList words.office why × (after ≡ before)
 FailsAs (plan.Register words) before after why = FailsToRegister words before after why
-FailsAs (plan.Import words) before after why = FailsToImport words before after why ⊎ (IsUnkept words.history why × (after ≡ before))
-FailsAs (plan.Serve words) before after why = (FailsToServe words why ⊎ IsUnkept words.history why) × SaysWhere before after (Err why)
-FailsAs (plan.Upgrade words) before after why = (IsUnusable why ⊎ IsUnbegun words.history why) × (after ≡ before)
+FailsAs (plan.Import words) before after why = FailsToImport words before after why ⊎ (IsUnkeptBy words.history why × (after ≡ before))
+FailsAs (plan.Serve words) before after why = (FailsToServe words why ⊎ IsUnkeptBy words.history why) × SaysWhere before after (Err why)
+FailsAs (plan.Upgrade words) before after why =
+    (IsUnusable why ⊎ (IsUnbegun (named_history words.history) why ⊎ IsUnused words.history why)) × (after ≡ before)
 FailsAs (plan.CheckDb words) before after why = (IsUnusable why ⊎ IsUnkept words.history why) × (after ≡ before)
 FailsAs (plan.History words) before after why =
     FailsToTell words why × ((after ≡ before) ⊎ ((wanted : Wanted) × Wants words wanted × TellsSome wanted no_roles before after))
-FailsAs (plan.RenewToken words) before after why = (FailsToRenew words why ⊎ IsUnkept words.history why) × (after ≡ before)
+FailsAs (plan.RenewToken words) before after why = (FailsToRenew words why ⊎ IsUnkeptBy words.history why) × (after ≡ before)
 FailsAs (plan.Replay words) before after why = (IsUnusable why ⊎ (IsOfHistory why ⊎ AreUnread words.history why)) × (after ≡ before)
-FailsAs (plan.BeginHistory words) before after why = (IsUnusable why ⊎ IsOfHistory why) × (after ≡ before)
+FailsAs (plan.BeginHistory words) before after why = (IsUnusable why ⊎ IsUnfinished why) × (after ≡ before)

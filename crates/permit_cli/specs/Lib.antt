@@ -1,15 +1,9 @@
-pub mod Asked
-pub mod Checked
 pub mod Doing
 pub mod Explained
 pub mod Failing
-pub mod Founded
-pub mod Opening
-pub mod Questions
+pub mod Keeping
 pub mod Reasons
 pub mod Running
-pub mod Served
 pub mod Streams
 pub mod Telling
 pub mod Wanting
-pub mod Working

@@ -8,6 +8,7 @@ use Rattle.permit_base.specs.declared.words.Edition.{Edition}
 use Rattle.permit_base.specs.declared.words.Edition.TheVariants.{First, Second}
 use Rattle.permit_store.specs.declared.store.OpenError.{OpenError}
 use Rattle.permit_store.specs.declared.store.OpenError.TheVariants as opening
+use Rattle.permit_subcommands.specs.Explaining.{line_reason}
 use Rattle.permit_subcommands.specs.declared.failure.HistoryFailure.{HistoryFailure}
 use Rattle.permit_subcommands.specs.declared.failure.HistoryFailure.TheVariants as history
 use Rattle.permit_sql_rows.specs.Schema.{IsOffice}
@@ -42,10 +43,13 @@ reason_line reason.Failed = codes "the disk is full or fails, or memory ran out"
 -- the line for a history that can't be used
 abbrev pub history_reason : HistoryFailure → List ℕ
 history_reason history.Differs = codes "the tables are not those that the text tells: something was done without --history, or one of the two is another office's or an older copy"
-history_reason (history.Line line) = codes "that line is no entry of a history, or may not follow those before it"
+history_reason history.Changed = codes "the first lines have another SHA-256, or there are fewer"
+history_reason (history.Line line reason) = line_reason reason
 history_reason history.Short = codes "the text ends before its second line, so it is no office's history"
 history_reason history.Exists = codes "there is a text in the file already"
 history_reason history.Copy = codes "the text begins with a copy of the database that begin-history was given: name it by --from, as it was then"
+history_reason history.Itself = codes "the copy that is named by --from is the database itself"
+history_reason history.Unused = codes "there is a history, which isn't named"
 history_reason history.Store = codes "another program has the file open, it is no regular file or has a second name, there is no right to it, or the disk is full or fails"
 
 -- ---- the tables

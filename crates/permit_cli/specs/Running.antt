@@ -1,25 +1,35 @@
 -- How the program's run ends.
 use Rattle.std.specs.Prelude.{◌≡◌, ◌⊎◌, ℕ, List, Option, Result, Ok, Err}
 use Rattle.permit_args.specs.Faults.{IsNoPlan}
+use Rattle.permit_args.specs.Keepings.{named_history}
 use Rattle.permit_args.specs.Plans.{IsPlanOf}
 use Rattle.permit_args.specs.declared.plan.Plan.{Plan}
 use Rattle.permit_args.specs.declared.plan.Plan.TheVariants as plan
 use Rattle.permit_args.specs.declared.plan.PlanFault.{PlanFault}
+use Rattle.permit_args.specs.declared.plan.ServeWords.{ServeWords}
 use Rattle.permit_subcommands.specs.Failures.{failure_status}
 use Rattle.permit_subcommands.specs.Printing.{TellsNoPlan}
 use Rattle.permit_subcommands.specs.declared.failure.Failure.{Failure}
 use Rattle.permit_subcommands.specs.declared.failure.Failure.TheVariants as failure
-use Rattle.permit_cli.specs.Doing.{ComesTo, SaysCauses}
+use Rattle.permit_database.specs.Doing.{SaysOpening, SaysRedone}
+use Rattle.permit_database.specs.declared.outcome.Outcome.{Outcome}
+use Rattle.permit_cli.specs.Doing.{ComesTo, SaysImport}
 use Rattle.permit_cli.specs.Explained.{database_of, FailsWith}
 use Rattle.permit_cli.specs.Failing.{FailsAs}
 use Rattle.permit_cli.specs.Telling.{IsTold, NamesPlace, SaysEnd, SaysNoPlan, Warns}
-use Rattle.permit_cli.specs.declared.outcome.Outcome.{Outcome}
 
--- what is said on standard error while a plan is carried out: at most that an address isn't this machine's alone, or why records
--- are refused, where that is asked for
+-- what is said on standard error while an office is served: that the address isn't this machine's alone, where it isn't, and how
+-- many commands were redone, where there is a history
+abbrev pub SaysServing : ServeWords → Option (List ℕ) → Option (List ℕ) → Type 0
+SaysServing words before after = (warned : Option (List ℕ)) × Warns words.listen.now before warned × SaysOpening (named_history words.history) warned after
+
+-- what is said on standard error while a plan is carried out
 abbrev pub SaysFirst : Plan → Option (List ℕ) → Option (List ℕ) → Type 0
-SaysFirst (plan.Serve words) before after = Warns words.listen.now before after
-SaysFirst (plan.Import words) before after = SaysCauses words.office.why before after
+SaysFirst (plan.Act words) before after = SaysOpening (named_history words.history) before after
+SaysFirst (plan.Import words) before after = SaysImport (named_history words.history) words.office.why before after
+SaysFirst (plan.Serve words) before after = SaysServing words before after
+SaysFirst (plan.RenewToken words) before after = SaysOpening (named_history words.history) before after
+SaysFirst (plan.BeginHistory words) before after = (redone : ℕ) × SaysRedone redone before after
 SaysFirst _ before after = after ≡ before
 
 -- a refusal that an answer gives is explained where that is asked for

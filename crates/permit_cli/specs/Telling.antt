@@ -1,10 +1,11 @@
 -- What is printed of an outcome, and the program's status.
-use Rattle.std.specs.Prelude.{◌≡◌, ◌⊎◌, ◌-◌, ◌++◌, ℕ, List, Option, Result, Ok, Err, codes, decimal, string_bytes}
+use Rattle.std.specs.Prelude.{◌≡◌, ◌≢◌, ◌⊎◌, ◌-◌, ◌++◌, ℕ, List, Option, Result, Ok, Err, codes, decimal, string_bytes}
 use Rattle.std.specs.Io.KnownBytes.{Appends}
 use Rattle.permit_import.specs.declared.refused.RefusalWord.TheVariants.{Store}
 use Rattle.permit_replay.specs.declared.alike.differing.Difference.{Difference}
 use Rattle.permit_replay.specs.declared.alike.differing.Difference.TheVariants as place
 use Rattle.permit_answer.specs.AnswerText.{answer_data}
+use Rattle.permit_chronicle.specs.Evidence.{evidence_line, lacks_line, verified_line}
 use Rattle.permit_days.specs.Dates.{IsTextOf}
 use Rattle.permit_replay.specs.declared.opening.bringing.Brought.{Brought}
 use Rattle.permit_store.specs.declared.store.OpenError.TheVariants as opening
@@ -19,8 +20,8 @@ use Rattle.permit_subcommands.specs.Printing.{Prints}
 use Rattle.permit_subcommands.specs.declared.failure.Failure.{Failure}
 use Rattle.permit_subcommands.specs.declared.failure.Failure.TheVariants as failure
 use Rattle.permit_subcommands.specs.declared.failure.HistoryFailure.TheVariants as history
-use Rattle.permit_cli.specs.declared.outcome.Outcome.{Outcome}
-use Rattle.permit_cli.specs.declared.outcome.Outcome.TheVariants as outcome
+use Rattle.permit_database.specs.declared.outcome.Outcome.{Outcome}
+use Rattle.permit_database.specs.declared.outcome.Outcome.TheVariants as outcome
 
 -- The text is printed whole, and then this is the end of the run; or the output failed, and a prefix of the text.
 abbrev pub PrintsThen : List ℕ → Result ℕ Failure → Option (List ℕ) → Option (List ℕ) → Result ℕ Failure → Type 0
@@ -73,6 +74,7 @@ IsTold (outcome.Checked text) before after result = PrintsThen (string_bytes tex
 IsTold outcome.Founded before after result = PrintsThen founded_line (Ok 0) before after result
 IsTold (outcome.Upgraded files) before after result = MakesAndPrints (upgraded_line files) (Ok 0) before after result
 IsTold (outcome.Sound desk) before after result = MakesAndPrints (sound_line desk) (Ok 0) before after result
+IsTold (outcome.SoundBeside desk evidence) before after result = MakesAndPrints (sound_line desk ++ evidence_line evidence) (Ok 0) before after result
 IsTold (outcome.Unsound fault) before after result = Silent (Err (failure.Database opening.Damaged)) before after result
 IsTold (outcome.Answered answer) before after result =
     (shown : Result (Unit {0}) Failure) × Shows (answer_data answer) before after shown × (result ≡ as_status shown)
@@ -81,6 +83,9 @@ IsTold outcome.Registered before after result = Silent (Ok 0) before after resul
 IsTold (outcome.Imported tally) before after result = Silent (Ok (import_status tally)) before after result
 IsTold outcome.Ended before after result = Silent (Ok 0) before after result
 IsTold outcome.Told before after result = Silent (Ok 0) before after result
+IsTold (outcome.ToldBeside lacking) before after result = Silent (Ok 0) before after result
+IsTold (outcome.Verified lines) before after result = MakesAndPrints (verified_line lines) (Ok 0) before after result
+IsTold (outcome.Standing place) before after result = Silent (Ok 0) before after result
 IsTold (outcome.Renewed party) before after result = PrintsThen (party_line party) (Ok 0) before after result
 IsTold (outcome.Differing place) before after result = Silent (Err (failure.History history.Differs)) before after result
 IsTold (outcome.Begun day) before after result = TellsBegun day before after result
@@ -96,10 +101,17 @@ about path line = path ++ (codes ": " ++ (line ++ codes "\n"))
 abbrev pub SaysAbout : List ℕ → List ℕ → Option (List ℕ) → Option (List ℕ) → Type 0
 SaysAbout path line before after = (said : Result (Unit {0}) Failure) × Prints (about path line) before after said
 
--- the first place that is wrong in the database at a path, or nothing for want of memory
+-- how many of a history's commands the tables of a database lack, where they lack any; or nothing, for want of memory
+abbrev pub SaysLacking : ℕ → Option (List ℕ) → Option (List ℕ) → Type 0
+SaysLacking lacking before after =
+    ((lacking ≢ 0) × ((said : Result (Unit {0}) Failure) × Prints (lacks_line lacking) before after said)) ⊎ (after ≡ before)
+
+-- what is said of an outcome: the first place that is wrong in the database at a path, or nothing for want of memory, or how many
+-- commands its tables lack
 abbrev pub NamesPlace : List ℕ → Outcome → Option (List ℕ) → Option (List ℕ) → Type 0
 NamesPlace path (outcome.Unsound fault) before after = SaysAbout path (fault_text fault) before after ⊎ (after ≡ before)
 NamesPlace path (outcome.Differing place) before after = SaysAbout path (difference_text place) before after ⊎ (after ≡ before)
+NamesPlace path (outcome.ToldBeside lacking) before after = SaysLacking lacking before after
 NamesPlace path done before after = after ≡ before
 
 -- what is said of an address that isn't this machine's alone

@@ -2,6 +2,7 @@
 
 ghost use Rattle.std.specs.Prelude.{◌≡◌, ◌++◌, codes, decimal};
 ghost use Rattle.permit_import.specs.Refusals.{refused_line};
+ghost use Rattle.permit_policy.specs.Fault.{fault_number};
 ghost use Rattle.permit_subcommands.specs.Failures.{failure_line, failure_status, open_word};
 ghost use Rattle.permit_subcommands.specs.Printing.{Prints};
 ghost use Rattle.permit_subcommands.specs.declared.failure.Failure.TheVariants as failure;
@@ -37,6 +38,19 @@ pub(crate) fn print_three<E: Write>(
     print_two(err, second, third)
 }
 
+/// Prints a number between two texts.
+pub(crate) fn print_number<E: Write>(
+    err: &mut E,
+    before: &str,
+    number: u64,
+    after: &str,
+) -> Result<(), Failure>
+    ensures { Prints (before.now ++ (decimal number ++ after.now)) (E.contents err.old) (E.contents err.new) result }
+{
+    let mut digits = Buffer::new();
+    print_three(err, before, digits.format(number), after)
+}
+
 /// Says a refusal on a line.
 fn say_refused<E: Write>(why: &Refused, err: &mut E) -> Result<(), Failure>
     ensures { Prints (refused_line why.now ++ codes "\n") (E.contents err.old) (E.contents err.new) result }
@@ -53,34 +67,13 @@ fn say_refused<E: Write>(why: &Refused, err: &mut E) -> Result<(), Failure>
     }
 }
 
-/// Prints the number of a place, and the end of its line.
-fn end_place<E: Write>(err: &mut E, rule: usize) -> Result<(), Failure>
-    ensures { Prints (decimal rule ++ codes "\n") (E.contents err.old) (E.contents err.new) result }
+/// Says on a line where a policy is refused, after the text that says which policy it is.
+fn say_place<E: Write>(front: &str, error: &PolicyError, err: &mut E) -> Result<(), Failure>
+    ensures { Prints (front.now ++ decimal (fault_number error.now.code) ++ codes " at rule " ++ decimal error.now.rule ++ codes "\n")
+        (E.contents err.old) (E.contents err.new) result }
 {
-    let mut digits = Buffer::new();
-    print_two(err, digits.format(rule), "\n")
-}
-
-/// Says on a line where a policy is refused.
-fn say_policy<E: Write>(error: &PolicyError, err: &mut E) -> Result<(), Failure>
-    ensures { Prints (failure_line (failure.Policy error.now) ++ codes "\n") (E.contents err.old) (E.contents err.new) result }
-{
-    let mut digits = Buffer::new();
-    let code = digits.format(error.code.number());
-    match print_three(err, "policy: fault ", code, " at rule ") {
-        Ok(()) => end_place(err, error.rule),
-        Err(failure) => Err(failure),
-    }
-}
-
-/// Says on a line where the policy is refused that another one is compared with.
-fn say_against<E: Write>(error: &PolicyError, err: &mut E) -> Result<(), Failure>
-    ensures { Prints (failure_line (failure.Against error.now) ++ codes "\n") (E.contents err.old) (E.contents err.new) result }
-{
-    let mut digits = Buffer::new();
-    let code = digits.format(error.code.number());
-    match print_three(err, "against: fault ", code, " at rule ") {
-        Ok(()) => end_place(err, error.rule),
+    match print_number(err, front, u64::from(error.code.number()), " at rule ") {
+        Ok(()) => print_number(err, "", error.rule as u64, "\n"),
         Err(failure) => Err(failure),
     }
 }
@@ -103,13 +96,13 @@ fn say_history<E: Write>(why: HistoryFailure, err: &mut E) -> Result<(), Failure
 {
     match why {
         HistoryFailure::Differs => print_text(err, "history: differs\n"),
-        HistoryFailure::Line(line) => {
-            let mut digits = Buffer::new();
-            print_three(err, "history: line ", digits.format(line), "\n")
-        }
+        HistoryFailure::Changed => print_text(err, "history: differs\n"),
+        HistoryFailure::Line(line, _) => print_number(err, "history: line ", line, "\n"),
         HistoryFailure::Short => print_text(err, "history: short\n"),
         HistoryFailure::Exists => print_text(err, "history: exists\n"),
         HistoryFailure::Copy => print_text(err, "history: copy\n"),
+        HistoryFailure::Itself => print_text(err, "history: copy\n"),
+        HistoryFailure::Unused => print_text(err, "history: unused\n"),
         HistoryFailure::Store => print_text(err, "history: store\n"),
     }
 }
@@ -121,8 +114,8 @@ fn say<E: Write>(failure: &Failure, err: &mut E) -> Result<(), Failure>
     match failure {
         Failure::Refused(why) => say_refused(why, err),
         Failure::File(path) => print_three(err, "cannot read ", path.as_str(), "\n"),
-        Failure::Policy(error) => say_policy(error, err),
-        Failure::Against(error) => say_against(error, err),
+        Failure::Policy(error) => say_place("policy: fault ", error, err),
+        Failure::Against(error) => say_place("against: fault ", error, err),
         Failure::Facts => print_text(err, "facts: unreadable\n"),
         Failure::Database(why) => print_three(err, "database: ", open_word(why), "\n"),
         Failure::History(why) => say_history(*why, err),

@@ -1,37 +1,40 @@
 //! The office's database: one file with its log beside it.
 
-ghost use Rattle.std.specs.Prelude.{◌≡◌, ◌⊎◌, IfErr, IfOk, IfSome, IsSomeAnd, IsTrue};
+ghost use Rattle.std.specs.Prelude.{◌≡◌, ◌⊎◌, IfErr, IfOk, IfSome, IsTrue};
 ghost use Rattle.sqlite_std_file.specs.File.{file_is_usable};
-ghost use Rattle.permit_cli.specs.Failing.{FailsToListen, IsOfHistory, IsUnopened, IsUnusable};
-ghost use Rattle.permit_cli.specs.Opening.{opening_failure};
-ghost use Rattle.permit_cli.specs.Served.{SaysWhere};
+ghost use Rattle.permit_database.specs.Doing.{SaysOpening};
+ghost use Rattle.permit_database.specs.Failing.{FailsToListen, IsUnopened, IsUnusable, OrOfText};
+ghost use Rattle.permit_database.specs.Served.{SaysWhere};
+ghost use Rattle.permit_database.specs.Working.{ComesOf, FailsAt, SaysAt};
+ghost use Rattle.permit_cli.specs.Failing.{opening_failure};
 ghost use Rattle.permit_cli.specs.Reasons.{is_of_path, opening_reason, IsReasonFor};
 ghost use Rattle.permit_cli.specs.Streams.{printed};
-ghost use Rattle.permit_cli.specs.Working.{ComesOf, FailsAt, SaysAt};
 
 use crate::history::HistoryOnDisk;
-use crate::outcome::Outcome;
+use crate::reading::Reading;
 use crate::reason::Reason;
-use crate::recorded::Recording;
-use crate::serving::served_in;
 use crate::standing::reason_in;
 use crate::stream::Stream;
-use crate::work::{WorkOnDisk, done_in};
 use permit_args::plan::ServeWords;
 use permit_base::words::Edition;
+use permit_database::opening::Recording;
+use permit_database::outcome::Outcome;
+use permit_database::serving::served_in;
+use permit_database::work::{Work, done_in};
 use permit_office_file::copies::{in_memory, on_disk};
 use permit_office_file::office_file::OfficeFile;
 use permit_policy::Policy;
 use permit_store::store::OpenError;
 use permit_subcommands::days::RunDays;
 use permit_subcommands::failure::Failure;
-use sqlite::{Connection, Error, ErrorCode, FileStore};
+use sqlite::{Alter, Connection, Error, ErrorCode, FileStore};
 use sqlite_disk::{Disk, Files};
 use sqlite_pager::Options;
 use sqlite_std_file::{OpenError as FileError, Start, Unknown};
-use std::fs::{self, Metadata, OpenOptions};
+use std::alloc::Global;
+use std::fs::{self, File, Metadata, OpenOptions};
 use std::hash::{BuildHasher, RandomState};
-use std::io::{ErrorKind, Write};
+use std::io::ErrorKind;
 use std::os::unix::fs::MetadataExt;
 use std::sync::Wait;
 use std::thread::Threads;
@@ -54,6 +57,9 @@ pub(crate) type DatabaseFile = OfficeFile<sqlite_std_file::File>;
 
 /// A connection to the two.
 pub(crate) type OfficeConnection = Connection<FileStore<DatabaseFile>>;
+
+/// What is to be done on a database where histories and records are files.
+pub(crate) type WorkOnDisk<'a> = Work<'a, HistoryOnDisk, File, Reading>;
 
 /// Opens the two files of the database at a path, under SQLite's lock on them. Those that are missing are made.
 fn files_at(rt: &HostRuntime, path: &str) -> Result<Files<sqlite_std_file::File>, Error>
@@ -177,8 +183,26 @@ pub(crate) fn closed(conn: OfficeConnection) {
     let _ = conn.close();
 }
 
-/// Does the work on the database at a path. A register and the lines of an import are written to `out` on the way, and why records
-/// are refused, where that is asked for, to `err`.
+/// Does the work on a database. A register and the lines of an import are written to `out` on the way. How many commands an opening
+/// with a history redid, and why records are refused, where that is asked for, are written to `err`.
+///
+/// The prover doesn't take all types of a call of `done_in` at once. So here the store stays any.
+fn done_over<S: Alter + Drop>(
+    alloc: Global,
+    conn: Connection<S>,
+    work: WorkOnDisk<'_>,
+    out: &mut Stream,
+    err: &mut Stream,
+) -> (Connection<S>, Result<Outcome, Failure>)
+    ensures comes { IfOk result.1 (ComesOf work.entry (printed out.old) (printed out.new)) }
+    ensures fails { IfErr result.1 (FailsAt work.entry (printed out.old) (printed out.new)) }
+    ensures says { SaysAt work.entry (printed err.old) (printed err.new) }
+{
+    done_in(alloc, conn, work, out, err)
+}
+
+/// Does the work on the database at a path, as `done_over` does on one that is open. A call with the store of a file costs the
+/// prover half a minute, so all work but serving comes here.
 pub(crate) fn done_at(
     rt: &HostRuntime,
     path: &str,
@@ -192,7 +216,7 @@ pub(crate) fn done_at(
 {
     match opened_for(rt, path, &work) {
         Ok(conn) => {
-            let (conn, done) = done_in(rt.alloc(), conn, work, out, err);
+            let (conn, done) = done_over(rt.alloc(), conn, work, out, err);
             closed(conn);
             done
         }
@@ -205,25 +229,29 @@ pub(crate) fn done_at(
 }
 
 /// Serves the office in the database that the words name over TCP, with its history where one comes with it, until its workers
-/// have ended.
-pub(crate) fn serve_at<R, O>(
+/// have ended. The line of the address is written to `out`, and how many commands were redone to `err`.
+#[tactic(auto, using(crate::proofs::Doings::says_no_opening))]
+pub(crate) fn serve_at<R>(
     rt: &HostRuntime,
     workers: R,
     policy: Policy,
     days: &RunDays,
     words: &ServeWords<'_>,
     history: Option<Recording<HistoryOnDisk>>,
-    out: &mut O,
+    out: &mut Stream,
+    err: &mut Stream,
 ) -> Result<(), Failure>
 where
     R: Threads + Wait + Copy + Drop + Send + 'static,
-    O: Write,
-    ensures fails { IfErr result (λ why. (IsUnusable why ⊎ IsSomeAnd history (λ _. IsOfHistory why)) ⊎ FailsToListen words.now.listen.now why) }
-    ensures says { SaysWhere (O.contents out.old) (O.contents out.new) result }
+    ensures fails { IfErr result (λ why. OrOfText history (IsUnusable why) why ⊎ FailsToListen words.now.listen.now why) }
+    ensures says { SaysWhere (printed out.old) (printed out.new) result }
+    ensures redone { SaysOpening history (printed err.old) (printed err.new) }
 {
     match opened(rt, words.db) {
         Ok(conn) => {
-            let (conn, served) = served_in(rt, workers, conn, policy, days, words, history, out);
+            let (conn, served) = served_in(
+                rt, workers, conn, policy, days, words, history, out, err,
+            );
             closed(conn);
             served
         }

@@ -3,10 +3,11 @@
 ghost use Rattle.std.specs.Prelude.{◌≡◌, Err, IfSome, IsTrue, List, ℕ, Option, option_map, string_bytes};
 ghost use Rattle.permit_import.specs.Headings.{IsHeadingText};
 ghost use Rattle.permit_policy.specs.PolicyText.{meaning, Means};
-ghost use Rattle.permit_cli.specs.Explained.{against_of, asks_why, database_of, history_of, named_path, policy_of, syntax_reason, text_path, wanted_by};
-ghost use Rattle.permit_cli.specs.Explained.{Explains, ExplainsFactsOf, ExplainsFile, ExplainsPolicy, ExplainsRefusal, FailsWith};
+ghost use Rattle.permit_cli.specs.Explained.{against_of, asks_why, database_of, history_of, is_beside, named_path, policy_of, refused_day, syntax_reason, text_path, wanted_by};
+ghost use Rattle.permit_cli.specs.Explained.{Explains, ExplainsFactsOf, ExplainsBeside, ExplainsFile, ExplainsHistory, ExplainsPolicy, ExplainsRefusal, FailsWith, IsUnreadLine};
 
 use crate::database::reason_at;
+use crate::keeping::beside;
 use crate::reason::history_reason;
 use permit_args::facts::facts_fault;
 use permit_args::plan::{Check, HistoryPaths, Plan};
@@ -15,15 +16,18 @@ use permit_import::heading::heading_reason;
 use permit_policy::fault::PolicyError;
 use permit_policy::text::read_policy;
 use permit_reasons::policy_reason;
+use permit_store::store::OpenError;
 use permit_subcommands::explaining::{
-    Unread, act_reason, day_reason, founder_reason, listen_reason, token_reason, zone_reason,
+    Unread, act_reason, day_reason, founder_reason, listen_reason, since_reason, token_reason,
+    zone_reason,
 };
-use permit_subcommands::failure::Failure;
+use permit_subcommands::failure::{Failure, HistoryFailure};
 use permit_subcommands::printing::{print_about, print_line_of};
 use permit_subcommands::refused::{RefusalWord, Refused};
 use std::alloc::Global;
 use std::fs::{self, File};
 use std::io::{ErrorKind, Write};
+use std::os::unix::fs::MetadataExt;
 
 /// Whether the words of a plan ask why it fails.
 fn asks_why(plan: &Plan<'_>) -> bool
@@ -62,12 +66,19 @@ fn makes_database(plan: &Plan<'_>) -> bool {
     matches!(plan, Plan::Init(_) | Plan::Replay(_))
 }
 
+/// A path that is named; else empty.
+fn named_path<'a>(path: Option<&'a str>) -> &'a str
+    ensures { result.now ≡ named_path path.entry }
+{
+    path.unwrap_or("")
+}
+
 /// The path of a plan's database; empty where it has none.
 pub(crate) fn database_of<'a>(plan: &Plan<'a>) -> &'a str
     ensures { result.now ≡ database_of plan.now }
 {
     match plan {
-        Plan::Name | Plan::CheckPolicy(_) | Plan::History(_) => "",
+        Plan::Name | Plan::CheckPolicy(_) => "",
         Plan::Init(words) => words.db,
         Plan::Act(words) => words.office.db,
         Plan::List(words) => words.office.db,
@@ -77,6 +88,7 @@ pub(crate) fn database_of<'a>(plan: &Plan<'a>) -> &'a str
         Plan::Upgrade(words) => words.db,
         Plan::CheckDb(words) => words.db,
         Plan::RenewToken(words) => words.db,
+        Plan::History(words) => named_path(words.db),
         Plan::Replay(words) => words.db,
         Plan::BeginHistory(words) => words.db,
     }
@@ -110,13 +122,6 @@ fn against_of<'a>(plan: &Plan<'a>) -> &'a str
     }
 }
 
-/// A path that is named; else empty.
-fn named_path<'a>(path: Option<&'a str>) -> &'a str
-    ensures { result.now ≡ named_path path.entry }
-{
-    path.unwrap_or("")
-}
-
 /// The path of the text of a history; empty where none is named.
 fn text_path<'a>(history: Option<HistoryPaths<'a>>) -> &'a str
     ensures { result.now ≡ text_path history.entry }
@@ -133,16 +138,29 @@ fn history_of<'a>(plan: &Plan<'a>) -> &'a str
 {
     match plan {
         Plan::Init(words) => named_path(words.history),
-        Plan::Act(words) => text_path(words.history),
-        Plan::Import(words) => text_path(words.history),
-        Plan::Serve(words) => text_path(words.history),
-        Plan::Upgrade(words) => named_path(words.history),
+        Plan::Act(words) => text_path(words.history.named()),
+        Plan::Import(words) => text_path(words.history.named()),
+        Plan::Serve(words) => text_path(words.history.named()),
+        Plan::Upgrade(words) => named_path(words.history.named()),
         Plan::CheckDb(words) => text_path(words.history),
-        Plan::RenewToken(words) => text_path(words.history),
+        Plan::RenewToken(words) => text_path(words.history.named()),
         Plan::History(words) => words.history,
         Plan::Replay(words) => words.history.text,
         Plan::BeginHistory(words) => words.history,
         _ => "",
+    }
+}
+
+/// The path of the copy of the database with which its history begins, where one is named.
+fn copy_of<'a>(plan: &Plan<'a>) -> Option<&'a str> {
+    match plan {
+        Plan::Act(words) => words.history.named()?.copy,
+        Plan::Import(words) => words.history.named()?.copy,
+        Plan::Serve(words) => words.history.named()?.copy,
+        Plan::CheckDb(words) => words.history?.copy,
+        Plan::RenewToken(words) => words.history.named()?.copy,
+        Plan::Replay(words) => words.history.copy,
+        _ => None,
     }
 }
 
@@ -179,14 +197,15 @@ fn explain_policy<E: Write>(
 }
 
 /// What is found at the path of a file that can't be read; `-` is standard input. A pipe isn't opened again, since that would wait
-/// for a writer.
-fn unread_at(rt: &HostRuntime, path: &str) -> Unread {
+/// for a writer. A history may have no second name.
+fn unread_at(rt: &HostRuntime, path: &str, history: &str) -> Unread {
     if path == "-" {
         return Unread::Failed;
     }
     let found = match fs::metadata(rt, path) {
         Ok(found) if found.is_dir() => return Unread::Folder,
         Ok(found) if !found.is_file() => return Unread::NotRegular,
+        Ok(found) if found.nlink() != 1 && path == history => return Unread::SecondName,
         Ok(_) => File::open(rt, path).map(drop),
         Err(error) => Err(error),
     };
@@ -194,6 +213,18 @@ fn unread_at(rt: &HostRuntime, path: &str) -> Unread {
         Err(ErrorKind::NotFound | ErrorKind::NotADirectory) => Unread::NoFile,
         Err(ErrorKind::PermissionDenied) => Unread::NoRight,
         _ => Unread::Failed,
+    }
+}
+
+/// Why the file at a path can't be read. A copy of the database is one that can't be used.
+fn unread_line(rt: &HostRuntime, plan: &Plan<'_>, path: &str) -> &'static str
+    ensures { IsUnreadLine result.now }
+{
+    match copy_of(plan) {
+        Some(copy) if copy == path => {
+            reason_at(rt, path, false, Edition::Second, OpenError::Store).line()
+        }
+        _ => unread_at(rt, path, history_of(plan)).line(),
     }
 }
 
@@ -235,7 +266,7 @@ fn explain_file<E: Write>(
 {
     match heading_of(rt, plan, path) {
         Some(line) => print_about(err, path, line.as_str()),
-        None => print_about(err, path, unread_at(rt, path).line()),
+        None => print_about(err, path, unread_line(rt, plan, path)),
     }
 }
 
@@ -280,6 +311,62 @@ fn explain_refusal<E: Write>(plan: &Plan<'_>, why: &Refused, err: &mut E) -> Res
     }
 }
 
+/// What is taken as the day that is refused.
+fn refused_day(plan: &Plan<'_>) -> &'static str
+    ensures { result.now ≡ refused_day plan.now }
+{
+    match plan {
+        Plan::History(_) => since_reason(),
+        _ => day_reason(),
+    }
+}
+
+/// Whether what is wrong is so of the history that lies beside the database: it isn't named, or is to be redone before a new one
+/// begins.
+fn is_beside(plan: &Plan<'_>, why: HistoryFailure) -> bool
+    ensures { result ≡ is_beside plan.now why }
+{
+    match why {
+        HistoryFailure::Unused => true,
+        HistoryFailure::Differs
+        | HistoryFailure::Line(..)
+        | HistoryFailure::Short
+        | HistoryFailure::Copy => matches!(plan, Plan::BeginHistory(_)),
+        _ => false,
+    }
+}
+
+/// Says what is wrong with the history that lies beside the database at a path. Without memory for its path nothing is said.
+fn explain_beside<E: Write>(
+    alloc: Global,
+    db: &str,
+    why: HistoryFailure,
+    err: &mut E,
+) -> Result<(), Failure>
+    ensures { ExplainsBeside db.now why (E.contents err.old) (E.contents err.new) result }
+{
+    match beside(alloc, db) {
+        Ok(Some(path)) => print_about(err, path.as_str(), history_reason(why)),
+        _ => Ok(()),
+    }
+}
+
+/// Says why a history can't be used.
+fn explain_history<E: Write>(
+    alloc: Global,
+    plan: &Plan<'_>,
+    why: HistoryFailure,
+    err: &mut E,
+) -> Result<(), Failure>
+    ensures { ExplainsHistory plan.now why (E.contents err.old) (E.contents err.new) result }
+{
+    if is_beside(plan, why) {
+        explain_beside(alloc, database_of(plan), why, err)
+    } else {
+        print_about(err, history_of(plan), history_reason(why))
+    }
+}
+
 /// Says why a plan failed.
 fn say_why<E: Write>(
     rt: &HostRuntime,
@@ -300,8 +387,8 @@ fn say_why<E: Write>(
             let reason = reason_at(rt, path, makes_database(plan), wanted_by(plan), *why);
             print_about(err, path, reason.line())
         }
-        Failure::History(why) => print_about(err, history_of(plan), history_reason(*why)),
-        Failure::Day => print_line_of(err, day_reason()),
+        Failure::History(why) => explain_history(rt.alloc(), plan, *why, err),
+        Failure::Day => print_line_of(err, refused_day(plan)),
         Failure::Zone => print_line_of(err, zone_reason()),
         Failure::Listen(_) => print_line_of(err, listen_reason()),
         Failure::Output => Ok(()),

@@ -8,10 +8,10 @@ ghost use Rattle.permit_subcommands.specs.declared.failure.Failure.TheVariants a
 ghost use Rattle.permit_cli.specs.Doing.{IsPolicyChecked};
 ghost use Rattle.permit_cli.specs.Failing.{FailsToCheck, IsAgainstFailure, IsPolicyFailure};
 
-use crate::outcome::Outcome;
 use permit_args::checking::{dead_text, explained_text, rules_text};
 use permit_args::facts::read_facts;
 use permit_args::plan::{Check, CheckPolicyWords};
+use permit_database::outcome::Outcome;
 use permit_policy::text::read_policy;
 use permit_policy::{Facts, Policy, TableForm, changes_text, differences, table_of, table_text};
 use permit_subcommands::failure::Failure;

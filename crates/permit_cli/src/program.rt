@@ -5,53 +5,53 @@ ghost use Rattle.std.specs.Io.KnownBytes.{Appends};
 ghost use Rattle.permit_base.specs.Texts.{is_token};
 ghost use Rattle.permit_import.specs.declared.refused.RefusalWord.TheVariants.{Syntax};
 ghost use Rattle.permit_report.specs.Outgoing.{WroteFront};
+ghost use Rattle.permit_args.specs.Keepings.{named_history};
 ghost use Rattle.permit_args.specs.declared.plan.PlanFault.{PlanFault as TheFault};
 ghost use Rattle.permit_subcommands.specs.Failures.{plain, IsUnread};
 ghost use Rattle.permit_subcommands.specs.Lines.{name_line};
 ghost use Rattle.permit_subcommands.specs.declared.failure.Failure.TheVariants as failure;
 ghost use Rattle.permit_subcommands.specs.Printing.{TellsNoPlan};
-ghost use Rattle.permit_cli.specs.Doing.{ActsAs, ComesTo, IsBegin, IsImported, IsReplay, IsRunDay, IsToldOnRunDay, IsUpgrade, ListsAs};
-ghost use Rattle.permit_cli.specs.Doing.{RegistersAs, SaysCauses, SaysOf, ServesAs};
-ghost use Rattle.permit_cli.specs.Failing.{AreUnread, FailsAs, FailsOnRunDay, FailsToAct, FailsToFound, FailsToImport, FailsToList};
-ghost use Rattle.permit_cli.specs.Failing.{FailsToRegister, FailsToRenew, FailsToServe, IsOfHistory, IsUnasked};
-ghost use Rattle.permit_cli.specs.Failing.{IsUnbegun, IsUncalled, IsUnkept, IsUnrenewed, IsUnusable};
-ghost use Rattle.permit_cli.specs.Running.{ExplainsAnswer, Performs, Reports, RunsAs, SaysFirst};
-ghost use Rattle.permit_cli.specs.Served.{SaysWhere};
+ghost use Rattle.permit_database.specs.Doing.{IsBegin, IsImported, IsUpgrade, SaysIn, SaysOpening, SaysRedone};
+ghost use Rattle.permit_database.specs.Failing.{IsOfHistory, IsUnusable};
+ghost use Rattle.permit_database.specs.Served.{SaysWhere};
+ghost use Rattle.permit_cli.specs.Doing.{ActsAs, ComesTo, IsToldOnRunDay, ListsAs, RegistersAs, SaysImport, ServesAs};
+ghost use Rattle.permit_cli.specs.Failing.{FailsAs, FailsToAct, FailsToAsk, FailsToFound, FailsToImport, FailsToList};
+ghost use Rattle.permit_cli.specs.Failing.{FailsToRegister, FailsToRenew, FailsToServe, IsUnbegun, IsUncalled, IsUnfinished, IsUnkeptBy, IsUnused};
+ghost use Rattle.permit_cli.specs.Running.{ExplainsAnswer, Performs, Reports, RunsAs, SaysFirst, SaysServing};
 ghost use Rattle.permit_cli.specs.Streams.{printed};
-ghost use Rattle.permit_cli.specs.Telling.{PrintsThen, SaysNoPlan, Warns};
-ghost use Rattle.permit_cli.specs.Wanting.{Wants};
+ghost use Rattle.permit_cli.specs.Telling.{PrintsThen, SaysNoPlan};
 
 use crate::checks::check_db;
 use crate::complaining::complain;
 use crate::database::{done_at, has_database, serve_at};
+use crate::entries::tell_history;
 use crate::explaining::{database_of, explain};
-use crate::history::{beginning_at, journal_at, reading_at, recording_at, tell_at};
+use crate::history::{journal_at, journal_named, new_at, unless_failed};
+use crate::keeping::{keeping_at, kept_at, old_at};
 use crate::listening::try_address;
-use crate::outcome::Outcome;
 use crate::policies::{check_policy, policy_at};
-use crate::question::Question;
+use crate::replaying::replay;
 use crate::stream::Stream;
 use crate::telling::{tell, without_plan};
-use crate::work::Work;
 use permit_args::plan::{
-    ActWords, BeginHistoryWords, HistoryPaths, HistoryWords, ImportWords, InitWords, ListWords,
-    OfficeWords, Plan, RegisterWords, RenewTokenWords, ReplayWords, ServeWords, UpgradeWords,
+    ActWords, BeginHistoryWords, HistoryPaths, ImportWords, InitWords, Keeping, ListWords,
+    OfficeWords, Plan, RegisterWords, RenewTokenWords, ServeWords, UpgradeWords,
 };
 use permit_args::words::{plan, words_given};
-use permit_base::values::{Day, FileId, ParcelId, PartyId, Token};
-use permit_chronicle::wanted::Wanted;
-use permit_keeping::replaying::founder_told;
+use permit_base::values::Token;
+use permit_database::outcome::Outcome;
+use permit_database::question::Question;
+use permit_database::work::Work;
 use permit_policy::Policy;
-use permit_replay::beginning::Beginning;
 use permit_store::founder::Founder;
-use permit_subcommands::days::{RunDays, dated, day_of_run, days_of_run};
+use permit_subcommands::days::{RunDays, day_of_run, days_of_run};
 use permit_subcommands::failure::{Failure, HistoryFailure};
 use permit_subcommands::founding::founder;
 use permit_subcommands::refused::RefusalWord;
-use permit_subcommands::request::{caller, request};
+use permit_subcommands::request::caller;
 use permit_subcommands::token::token_of;
 use std::alloc::Global;
-use std::fs::{self, File};
+use std::fs::File;
 use std::sync::Wait;
 use std::thread::Threads;
 
@@ -64,131 +64,77 @@ fn founder_of(rt: &HostRuntime, words: &InitWords<'_>) -> Result<Founder, Failur
     founder(rt.alloc(), words.name, token.as_str(), day)
 }
 
-/// Founds an office, and begins its history where one is named.
-fn init(rt: &HostRuntime, words: &InitWords<'_>) -> Result<Outcome, Failure>
+/// Founds an office with this founder, and begins its history where one is named.
+fn found(rt: &HostRuntime, words: &InitWords<'_>, founder: &Founder) -> Result<Outcome, Failure>
     ensures founds { IfOk result (λ done. done ≡ Outcome.Founded) }
     ensures fails { IfErr result (λ why. FailsToFound words.now why ⊎ IsUnbegun words.now.history why) }
 {
-    let founder = match founder_of(rt, words) {
-        Ok(founder) => founder,
-        Err(why) => return Err(why),
-    };
-    let founder = &founder;
-    match words.history {
-        None => done_at(
-            rt,
-            words.db,
-            Work::Found { founder },
-            &mut Stream::Sink,
-            &mut Stream::Sink,
-        ),
-        Some(history) => match journal_at(rt, history) {
-            Ok(journal) => {
-                let work = Work::FoundRecorded { founder, journal };
-                done_at(rt, words.db, work, &mut Stream::Sink, &mut Stream::Sink)
-            }
-            Err(why) => Err(why),
-        },
-    }
-}
-
-/// The day and the policy of the office that the words name, whose database is there.
-fn day_and_policy(rt: &HostRuntime, words: &OfficeWords<'_>) -> Result<(Day, Policy), Failure>
-    ensures day { IfOk result (λ read. IsRunDay words.now.days read.0) }
-    ensures fails { IfErr result (IsUnasked words.now) }
-{
-    let day = day_of_run(rt, &words.days)?;
-    let policy = policy_at(rt, words.policy)?;
-    has_database(rt, words.db)?;
-    Ok((day, policy))
-}
-
-/// Asks the office that the words name. No database is made where there is none.
-#[tactic(auto, using(crate::proofs::Doings::says_nothing_of))]
-fn ask_office(
-    rt: &HostRuntime,
-    words: &OfficeWords<'_>,
-    question: Question<'_, File>,
-    out: &mut Stream,
-    err: &mut Stream,
-) -> Result<Outcome, Failure>
-    ensures told { IfOk result (IsToldOnRunDay words.now.days question.entry (printed out.old) (printed out.new)) }
-    ensures fails { IfErr result (FailsOnRunDay words.now question.entry (printed out.old) (printed out.new)) }
-    ensures says { SaysOf question.entry (printed err.old) (printed err.new) }
-{
-    let day = day_of_run(rt, &words.days)?;
-    let policy = policy_at(rt, words.policy)?;
-    has_database(rt, words.db)?;
-    let work = Work::Ask {
-        policy,
-        day,
-        question,
-    };
-    done_at(rt, words.db, work, out, err)
-}
-
-/// Has an office without a history serve one request.
-fn act_alone(rt: &HostRuntime, words: &ActWords<'_>, out: &mut Stream) -> Result<Outcome, Failure>
-    ensures acts { IfOk result (ActsAs words.now (printed out.old) (printed out.new)) }
-    ensures fails { IfErr result (FailsToAct words.now) }
-    ensures unwritten { OnErr result (printed out.new ≡ printed out.old) }
-{
-    let token = token_of(rt, &words.office.token)?;
-    let question = Question::of_act(rt.alloc(), words, token.as_str())?;
-    ask_office(rt, &words.office, question, out, &mut Stream::Sink)
-}
-
-/// Has an office serve one request, and enters it into its history where it is a command that is done.
-fn act_recorded(
-    rt: &HostRuntime,
-    words: &ActWords<'_>,
-    history: HistoryPaths<'_>,
-) -> Result<Outcome, Failure>
-    ensures acts { (held : Option (List ℕ)) → IfOk result (ActsAs words.now held held) }
-    ensures fails { IfErr result (λ why. FailsToAct words.now why ⊎ (IsOfHistory why ⊎ AreUnread history.entry why)) }
-{
-    let token = match token_of(rt, &words.office.token) {
-        Ok(token) => token,
-        Err(why) => return Err(why),
-    };
-    let request = match request(rt.alloc(), words, token.as_str()) {
-        Ok(request) => request,
-        Err(why) => return Err(why),
-    };
-    let (day, policy) = match day_and_policy(rt, &words.office) {
-        Ok(read) => read,
-        Err(why) => return Err(why),
-    };
-    match recording_at(rt, history) {
-        Ok(history) => {
-            let work = Work::AskRecorded {
-                policy,
-                day,
-                request: request.as_str(),
-                history,
-            };
-            done_at(
-                rt,
-                words.office.db,
-                work,
-                &mut Stream::Sink,
-                &mut Stream::Sink,
-            )
+    match journal_named(rt, words.history) {
+        Ok(journal) => {
+            let work = Work::Found { founder, journal };
+            done_at(rt, words.db, work, &mut Stream::Sink, &mut Stream::Sink)
         }
         Err(why) => Err(why),
     }
 }
 
-/// Has the office serve one request.
-fn act(rt: &HostRuntime, words: &ActWords<'_>, out: &mut Stream) -> Result<Outcome, Failure>
-    ensures acts { IfOk result (ActsAs words.now (printed out.old) (printed out.new)) }
-    ensures fails { IfErr result (λ why. FailsToAct words.now why ⊎ IsUnkept words.now.history why) }
-    ensures unwritten { OnErr result (printed out.new ≡ printed out.old) }
+/// Founds an office, and begins its history where one is named. Where it fails, no file is left that was made for the history.
+fn init(rt: &HostRuntime, words: &InitWords<'_>) -> Result<Outcome, Failure>
+    ensures founds { IfOk result (λ done. done ≡ Outcome.Founded) }
+    ensures fails { IfErr result (λ why. FailsToFound words.now why ⊎ IsUnbegun words.now.history why) }
 {
-    match words.history {
-        None => act_alone(rt, words, out),
-        Some(history) => act_recorded(rt, words, history),
+    match founder_of(rt, words) {
+        Ok(founder) => {
+            let made = new_at(rt, words.history);
+            let founded = found(rt, words, &founder);
+            unless_failed(rt, made, founded)
+        }
+        Err(why) => Err(why),
     }
+}
+
+/// Asks the office that the words name, with its history where one is kept. No database is made where there is none.
+#[tactic(auto, using(crate::proofs::Doings::says_no_asking))]
+fn ask_office(
+    rt: &HostRuntime,
+    words: &OfficeWords<'_>,
+    keeping: Keeping<HistoryPaths<'_>>,
+    question: Question<'_, File>,
+    out: &mut Stream,
+    err: &mut Stream,
+) -> Result<Outcome, Failure>
+    ensures told { IfOk result (IsToldOnRunDay words.now.days question.entry (printed out.old) (printed out.new)) }
+    ensures fails { IfErr result (FailsToAsk words.now keeping.entry question.entry (printed out.old) (printed out.new)) }
+    ensures says { SaysIn (named_history keeping.entry) question.entry (printed err.old) (printed err.new) }
+{
+    let day = day_of_run(rt, &words.days)?;
+    let policy = policy_at(rt, words.policy)?;
+    has_database(rt, words.db)?;
+    let history = kept_at(rt, words.db, keeping)?;
+    let work = Work::Ask {
+        policy,
+        day,
+        question,
+        history,
+    };
+    done_at(rt, words.db, work, out, err)
+}
+
+/// Has the office serve one request, and enters it into its history where one is named and it is a command that is done.
+fn act(
+    rt: &HostRuntime,
+    words: &ActWords<'_>,
+    out: &mut Stream,
+    err: &mut Stream,
+) -> Result<Outcome, Failure>
+    ensures acts { IfOk result (ActsAs words.now (printed out.old) (printed out.new)) }
+    ensures fails { IfErr result (λ why. FailsToAct words.now why ⊎ IsUnkeptBy words.now.history why) }
+    ensures unwritten { OnErr result (printed out.new ≡ printed out.old) }
+    ensures says { SaysOpening (named_history words.now.history) (printed err.old) (printed err.new) }
+{
+    let token = token_of(rt, &words.office.token)?;
+    let question = Question::of_act(rt.alloc(), words, token.as_str())?;
+    ask_office(rt, &words.office, words.history, question, out, err)
 }
 
 /// Lists files.
@@ -199,7 +145,14 @@ fn list(rt: &HostRuntime, words: &ListWords<'_>, out: &mut Stream) -> Result<Out
 {
     let token = token_of(rt, &words.office.token)?;
     let question = Question::of_list(rt.alloc(), words, token.as_str())?;
-    ask_office(rt, &words.office, question, out, &mut Stream::Sink)
+    ask_office(
+        rt,
+        &words.office,
+        Keeping::Without,
+        question,
+        out,
+        &mut Stream::Sink,
+    )
 }
 
 /// Writes a register.
@@ -213,7 +166,14 @@ fn register(
 {
     let token = token_of(rt, &words.office.token)?;
     let question = Question::of_register(rt.alloc(), words, token.as_str())?;
-    ask_office(rt, &words.office, question, out, &mut Stream::Sink)
+    ask_office(
+        rt,
+        &words.office,
+        Keeping::Without,
+        question,
+        out,
+        &mut Stream::Sink,
+    )
 }
 
 /// The file of records that the words name.
@@ -234,72 +194,9 @@ fn caller_of(rt: &HostRuntime, words: &OfficeWords<'_>) -> Result<Token, Failure
     caller(rt.alloc(), token.as_str())
 }
 
-/// Imports the records of a file into an office, and enters what is added into its history.
-#[tactic(auto, using(crate::proofs::Doings::says_nothing))]
-fn import_recorded(
-    rt: &HostRuntime,
-    words: &ImportWords<'_>,
-    history: HistoryPaths<'_>,
-    out: &mut Stream,
-    err: &mut Stream,
-) -> Result<Outcome, Failure>
-    ensures imports { IfOk result (IsImported (printed out.old) (printed out.new)) }
-    ensures fails { IfErr result (λ why. FailsToImport words.now (printed out.old) (printed out.new) why
-        ⊎ ((IsOfHistory why ⊎ AreUnread history.entry why) × (printed out.new ≡ printed out.old))) }
-    ensures says { SaysCauses words.now.office.why (printed err.old) (printed err.new) }
-{
-    let token = match caller_of(rt, &words.office) {
-        Ok(token) => token,
-        Err(why) => return Err(why),
-    };
-    let records = match records_of(rt, words) {
-        Ok(records) => records,
-        Err(why) => return Err(why),
-    };
-    let (day, policy) = match day_and_policy(rt, &words.office) {
-        Ok(read) => read,
-        Err(why) => return Err(why),
-    };
-    match recording_at(rt, history) {
-        Ok(history) => {
-            let work = Work::ImportRecorded {
-                policy,
-                day,
-                token: &token,
-                path: words.file,
-                why: words.office.why,
-                records,
-                history,
-            };
-            done_at(rt, words.office.db, work, out, err)
-        }
-        Err(why) => Err(why),
-    }
-}
-
-/// Imports the records of a file into an office without a history.
-#[tactic(auto, using(crate::proofs::Doings::says_nothing))]
-fn import_alone(
-    rt: &HostRuntime,
-    words: &ImportWords<'_>,
-    out: &mut Stream,
-    err: &mut Stream,
-) -> Result<Outcome, Failure>
-    ensures imports { IfOk result (IsImported (printed out.old) (printed out.new)) }
-    ensures fails { IfErr result (FailsToImport words.now (printed out.old) (printed out.new)) }
-    ensures says { SaysCauses words.now.office.why (printed err.old) (printed err.new) }
-{
-    let token = token_of(rt, &words.office.token)?;
-    let token = caller(rt.alloc(), token.as_str())?;
-    let records = match File::open(rt, words.file) {
-        Ok(records) => records,
-        Err(error) => return Err(Failure::of_reading(rt.alloc(), words.file, &error)),
-    };
-    let question = Question::of_import(words, token, records);
-    ask_office(rt, &words.office, question, out, err)
-}
-
-/// Imports the records of a file. Where the words ask for that, why records are refused is written to `err` on the way.
+/// Imports the records of a file, and enters what is added into the history where one is named. Where the words ask for that, why
+/// records are refused is written to `err` on the way.
+#[tactic(auto, using(crate::proofs::Doings::says_no_import))]
 fn import(
     rt: &HostRuntime,
     words: &ImportWords<'_>,
@@ -308,13 +205,13 @@ fn import(
 ) -> Result<Outcome, Failure>
     ensures imports { IfOk result (IsImported (printed out.old) (printed out.new)) }
     ensures fails { IfErr result (λ why. FailsToImport words.now (printed out.old) (printed out.new) why
-        ⊎ (IsUnkept words.now.history why × (printed out.new ≡ printed out.old))) }
-    ensures says { SaysCauses words.now.office.why (printed err.old) (printed err.new) }
+        ⊎ (IsUnkeptBy words.now.history why × (printed out.new ≡ printed out.old))) }
+    ensures says { SaysImport (named_history words.now.history) words.now.office.why (printed err.old) (printed err.new) }
 {
-    match words.history {
-        None => import_alone(rt, words, out, err),
-        Some(history) => import_recorded(rt, words, history, out, err),
-    }
+    let token = caller_of(rt, &words.office)?;
+    let records = records_of(rt, words)?;
+    let question = Question::of_import(words, token, records);
+    ask_office(rt, &words.office, words.history, question, out, err)
 }
 
 /// The days and the policy of the office that the words name, whose database is there.
@@ -327,27 +224,6 @@ fn days_and_policy(rt: &HostRuntime, words: &ServeWords<'_>) -> Result<(RunDays,
     Ok((days, policy))
 }
 
-/// Serves an office over TCP, and enters what is done into its history.
-fn serve_recorded<R>(
-    rt: &HostRuntime,
-    workers: R,
-    words: &ServeWords<'_>,
-    history: HistoryPaths<'_>,
-    days: &RunDays,
-    policy: Policy,
-    out: &mut Stream,
-) -> Result<(), Failure>
-where
-    R: Threads + Wait + Copy + Drop + Send + 'static,
-    ensures fails { IfErr result (λ why. FailsToServe words.now why ⊎ (IsOfHistory why ⊎ AreUnread history.entry why)) }
-    ensures says { SaysWhere (printed out.old) (printed out.new) result }
-{
-    match recording_at(rt, history) {
-        Ok(history) => serve_at(rt, workers, policy, days, words, Some(history), out),
-        Err(why) => Err(why),
-    }
-}
-
 /// Serves an office over TCP on the days of a run, with its history where one is named.
 fn serve_on_days<R>(
     rt: &HostRuntime,
@@ -356,19 +232,20 @@ fn serve_on_days<R>(
     days: &RunDays,
     policy: Policy,
     out: &mut Stream,
+    err: &mut Stream,
 ) -> Result<Outcome, Failure>
 where
     R: Threads + Wait + Copy + Drop + Send + 'static,
     ensures serves { IfOk result (ServesAs (printed out.old) (printed out.new)) }
-    ensures fails { IfErr result (λ why. FailsToServe words.now why ⊎ IsUnkept words.now.history why) }
+    ensures fails { IfErr result (λ why. FailsToServe words.now why ⊎ IsUnkeptBy words.now.history why) }
     ensures says { IfErr result (λ why. SaysWhere (printed out.old) (printed out.new) (Err why)) }
+    ensures redone { SaysOpening (named_history words.now.history) (printed err.old) (printed err.new) }
 {
-    let served = match words.history {
-        None => serve_at(rt, workers, policy, days, words, None, out),
-        Some(history) => serve_recorded(rt, workers, words, history, days, policy, out),
-    };
-    match served {
-        Ok(()) => Ok(Outcome::Ended),
+    match kept_at(rt, words.db, words.history) {
+        Ok(history) => match serve_at(rt, workers, policy, days, words, history, out, err) {
+            Ok(()) => Ok(Outcome::Ended),
+            Err(why) => Err(why),
+        },
         Err(why) => Err(why),
     }
 }
@@ -384,23 +261,23 @@ fn serve<R>(
 where
     R: Threads + Wait + Copy + Drop + Send + 'static,
     ensures serves { IfOk result (ServesAs (printed out.old) (printed out.new)) }
-    ensures fails { IfErr result (λ why. FailsToServe words.now why ⊎ IsUnkept words.now.history why) }
+    ensures fails { IfErr result (λ why. FailsToServe words.now why ⊎ IsUnkeptBy words.now.history why) }
     ensures says { IfErr result (λ why. SaysWhere (printed out.old) (printed out.new) (Err why)) }
-    ensures warns { Warns words.now.listen.now (printed err.old) (printed err.new) }
+    ensures first { SaysServing words.now (printed err.old) (printed err.new) }
 {
     let (days, policy) = match days_and_policy(rt, words) {
         Ok(read) => read,
         Err(why) => return Err(why),
     };
     match try_address(rt, words.listen, err) {
-        Ok(()) => serve_on_days(rt, workers, words, &days, policy, out),
+        Ok(()) => serve_on_days(rt, workers, words, &days, policy, out, err),
         Err(why) => Err(why),
     }
 }
 
 /// Makes of the database at a path, of the version before, one of this version, and begins the office's history in the file at
 /// the other, which has no text yet.
-fn upgrade_recorded(rt: &HostRuntime, path: &str, history: &str) -> Result<Outcome, Failure>
+fn upgrade_and_begin(rt: &HostRuntime, path: &str, history: &str) -> Result<Outcome, Failure>
     ensures upgrades { IfOk result IsUpgrade }
     ensures fails { IfErr result (λ why. IsUnusable why ⊎ IsOfHistory why) }
 {
@@ -411,25 +288,34 @@ fn upgrade_recorded(rt: &HostRuntime, path: &str, history: &str) -> Result<Outco
     if journal.length() != 0 {
         return Err(Failure::History(HistoryFailure::Exists));
     }
-    let upgraded = match done_at(
-        rt,
-        path,
-        Work::Upgrade,
-        &mut Stream::Sink,
-        &mut Stream::Sink,
-    ) {
+    let work = Work::Upgrade;
+    let upgraded = match done_at(rt, path, work, &mut Stream::Sink, &mut Stream::Sink) {
         Ok(upgraded) => upgraded,
         Err(why) => return Err(why),
     };
-    match done_at(
-        rt,
-        path,
-        Work::Begin { journal },
-        &mut Stream::Sink,
-        &mut Stream::Sink,
-    ) {
+    let work = Work::Begin { journal, old: None };
+    match done_at(rt, path, work, &mut Stream::Sink, &mut Stream::Sink) {
         Ok(_) => Ok(upgraded),
         Err(why) => Err(why),
+    }
+}
+
+/// Makes of the database at a path one of this version, and begins the office's history where one is named. Where it fails, no file is
+/// left that was made for the history.
+fn upgrade_with(rt: &HostRuntime, path: &str, history: Option<&str>) -> Result<Outcome, Failure>
+    ensures upgrades { IfOk result IsUpgrade }
+    ensures fails { IfErr result (λ why. IsUnusable why ⊎ IsUnbegun history.entry why) }
+{
+    match history {
+        None => {
+            let work = Work::Upgrade;
+            done_at(rt, path, work, &mut Stream::Sink, &mut Stream::Sink)
+        }
+        Some(history) => {
+            let made = new_at(rt, Some(history));
+            let upgraded = upgrade_and_begin(rt, path, history);
+            unless_failed(rt, made, upgraded)
+        }
     }
 }
 
@@ -437,112 +323,54 @@ fn upgrade_recorded(rt: &HostRuntime, path: &str, history: &str) -> Result<Outco
 /// is none.
 fn upgrade(rt: &HostRuntime, words: &UpgradeWords<'_>) -> Result<Outcome, Failure>
     ensures upgrades { IfOk result IsUpgrade }
-    ensures fails { IfErr result (λ why. IsUnusable why ⊎ IsUnbegun words.now.history why) }
+    ensures fails { IfErr result (λ why. IsUnusable why ⊎ (IsUnbegun (named_history words.now.history) why ⊎ IsUnused words.now.history why)) }
 {
     if let Err(why) = has_database(rt, words.db) {
         return Err(why);
     }
-    match words.history {
-        None => done_at(
-            rt,
-            words.db,
-            Work::Upgrade,
-            &mut Stream::Sink,
-            &mut Stream::Sink,
-        ),
-        Some(history) => upgrade_recorded(rt, words.db, history),
+    match keeping_at(rt, words.db, words.history) {
+        Ok(history) => upgrade_with(rt, words.db, history),
+        Err(why) => Err(why),
     }
 }
 
-/// Makes an office in the database at a path of the history at the other, which may begin so, or brings the one that is there
-/// further. The history is replayed in memory before the database is opened.
-fn replay_at(
-    rt: &HostRuntime,
-    path: &str,
-    beginning: Beginning,
-    history: &str,
-) -> Result<Outcome, Failure>
-    ensures replays { IfOk result IsReplay }
-    ensures fails { IfErr result (λ why. IsUnusable why ⊎ (IsOfHistory why ⊎ IsUnread history.now why)) }
+/// Begins the history of the office in the database at a path, in the file at the other. An older history that lies beside the
+/// database is redone first.
+fn begin_at(rt: &HostRuntime, db: &str, history: &str, err: &mut Stream) -> Result<Outcome, Failure>
+    ensures begins { IfOk result IsBegin }
+    ensures fails { IfErr result (λ why. IsUnusable why ⊎ IsUnfinished why) }
+    ensures says { (redone : ℕ) × SaysRedone redone (printed err.old) (printed err.new) }
 {
-    let mut beginning = beginning;
-    let mut whole = reading_at(rt, history)?;
-    let mut first = reading_at(rt, history)?;
-    let source = reading_at(rt, history)?;
-    let founder = match founder_told(rt.alloc(), &mut beginning, &mut whole, &mut first) {
-        Ok(founder) => founder,
+    let journal = match journal_at(rt, history) {
+        Ok(journal) => journal,
         Err(why) => return Err(why),
     };
-    let work = Work::Replay {
-        beginning,
-        founder,
-        source,
-    };
-    match done_at(rt, path, work, &mut Stream::Sink, &mut Stream::Sink) {
-        Ok(replayed) => Ok(replayed),
+    match old_at(rt, db, history) {
+        Ok(old) => {
+            let work = Work::Begin { journal, old };
+            done_at(rt, db, work, &mut Stream::Sink, err)
+        }
         Err(why) => Err(why),
     }
 }
 
-/// Makes an office of a history, or brings one further to it.
-fn replay(rt: &HostRuntime, words: &ReplayWords<'_>) -> Result<Outcome, Failure>
-    ensures replays { IfOk result IsReplay }
-    ensures fails { IfErr result (λ why. IsUnusable why ⊎ (IsOfHistory why ⊎ AreUnread words.now.history why)) }
-{
-    match beginning_at(rt, words.history) {
-        Ok(beginning) => replay_at(rt, words.db, beginning, words.history.text),
-        Err(why) => Err(why),
-    }
-}
-
-/// Begins the history of an office. No database is made where there is none.
-fn begin_history(rt: &HostRuntime, words: &BeginHistoryWords<'_>) -> Result<Outcome, Failure>
+/// Begins the history of an office. No database is made where there is none, and where it fails, no file is left that was made for the
+/// history.
+fn begin_history(
+    rt: &HostRuntime,
+    words: &BeginHistoryWords<'_>,
+    err: &mut Stream,
+) -> Result<Outcome, Failure>
     ensures begins { IfOk result IsBegin }
-    ensures fails { IfErr result (λ why. IsUnusable why ⊎ IsOfHistory why) }
+    ensures fails { IfErr result (λ why. IsUnusable why ⊎ IsUnfinished why) }
+    ensures says { (redone : ℕ) × SaysRedone redone (printed err.old) (printed err.new) }
 {
     match has_database(rt, words.db) {
-        Ok(()) => match journal_at(rt, words.history) {
-            Ok(journal) => done_at(
-                rt,
-                words.db,
-                Work::Begin { journal },
-                &mut Stream::Sink,
-                &mut Stream::Sink,
-            ),
-            Err(why) => Err(why),
-        },
-        Err(why) => Err(why),
-    }
-}
-
-/// Which entries the words want.
-fn wanted(words: &HistoryWords<'_>) -> Result<Wanted, Failure>
-    ensures wants { IfOk result (Wants words.now) }
-    ensures fails { IfErr result (λ why. why ≡ failure.Day) }
-{
-    let since = match words.since {
-        Some(date) => Some(dated(date)?),
-        None => None,
-    };
-    Ok(Wanted {
-        since,
-        file: words.file.and_then(FileId::new),
-        parcel: words.parcel.and_then(ParcelId::new),
-        party: words.party.and_then(PartyId::new),
-    })
-}
-
-/// Prints the entries of a history, a line each.
-fn tell_history(
-    rt: &HostRuntime,
-    words: &HistoryWords<'_>,
-    out: &mut Stream,
-) -> Result<Outcome, Failure>
-    ensures tells { IfOk result (ComesTo (Plan.History words.now) (printed out.old) (printed out.new)) }
-    ensures fails { IfErr result (FailsAs (Plan.History words.now) (printed out.old) (printed out.new)) }
-{
-    match wanted(words) {
-        Ok(wanted) => tell_at(rt, words.history, &wanted, out),
+        Ok(()) => {
+            let made = new_at(rt, Some(words.history));
+            let begun = begin_at(rt, words.db, words.history, err);
+            unless_failed(rt, made, begun)
+        }
         Err(why) => Err(why),
     }
 }
@@ -558,54 +386,31 @@ fn new_token(text: String) -> Result<Token, Failure>
     }
 }
 
-/// Replaces the token of a party of an office, and enters that into the office's history.
-fn renew_recorded(
+/// Replaces the token of a party, and enters that into the office's history where one is named. No database is made where there is
+/// none.
+fn renew_token(
     rt: &HostRuntime,
     words: &RenewTokenWords<'_>,
-    history: HistoryPaths<'_>,
-    token: &Token,
+    err: &mut Stream,
 ) -> Result<Outcome, Failure>
     ensures renews { IfOk result (λ done. done ≡ Outcome.Renewed words.now.party) }
-    ensures fails { IfErr result (λ why. IsUnrenewed why ⊎ (IsOfHistory why ⊎ AreUnread history.entry why)) }
-{
-    let Some(party) = PartyId::new(words.party) else {
-        return Err(Failure::plain(RefusalWord::Record));
-    };
-    match recording_at(rt, history) {
-        Ok(history) => {
-            let work = Work::RenewRecorded {
-                party,
-                token,
-                history,
-            };
-            done_at(rt, words.db, work, &mut Stream::Sink, &mut Stream::Sink)
-        }
-        Err(why) => Err(why),
-    }
-}
-
-/// Replaces the token of a party. No database is made where there is none.
-fn renew_token(rt: &HostRuntime, words: &RenewTokenWords<'_>) -> Result<Outcome, Failure>
-    ensures renews { IfOk result (λ done. done ≡ Outcome.Renewed words.now.party) }
-    ensures fails { IfErr result (λ why. FailsToRenew words.now why ⊎ IsUnkept words.now.history why) }
+    ensures fails { IfErr result (λ why. FailsToRenew words.now why ⊎ IsUnkeptBy words.now.history why) }
+    ensures says { SaysOpening (named_history words.now.history) (printed err.old) (printed err.new) }
 {
     let token = new_token(token_of(rt, &words.token)?)?;
     has_database(rt, words.db)?;
-    match words.history {
-        None => {
-            let work = Work::Renew {
-                party: words.party,
-                token: &token,
-            };
-            done_at(rt, words.db, work, &mut Stream::Sink, &mut Stream::Sink)
-        }
-        Some(history) => renew_recorded(rt, words, history, &token),
-    }
+    let history = kept_at(rt, words.db, words.history)?;
+    let work = Work::Renew {
+        party: words.party,
+        token: &token,
+        history,
+    };
+    done_at(rt, words.db, work, &mut Stream::Sink, err)
 }
 
-/// Does what a plan asks for. The database is closed before anything else is printed than a register, the lines of an import and
-/// why its records are refused, or the address that is listened on and what is said of it, so that nothing that was printed is
-/// undone.
+/// Does what a plan asks for. The database is closed before anything else is printed than how many commands were redone, a register,
+/// the lines of an import and why its records are refused, or the address that is listened on and what is said of it, so that
+/// nothing that was printed is undone.
 fn carry_out<R>(
     rt: &HostRuntime,
     workers: R,
@@ -624,17 +429,17 @@ where
         Plan::Name => Ok(Outcome::Name),
         Plan::CheckPolicy(words) => check_policy(rt, words),
         Plan::Init(words) => init(rt, words),
-        Plan::Act(words) => act(rt, words, out),
+        Plan::Act(words) => act(rt, words, out, err),
         Plan::List(words) => list(rt, words, out),
         Plan::Register(words) => register(rt, words, out),
         Plan::Import(words) => import(rt, words, out, err),
         Plan::Serve(words) => serve(rt, workers, words, out, err),
         Plan::Upgrade(words) => upgrade(rt, words),
         Plan::CheckDb(words) => check_db(rt, words),
-        Plan::RenewToken(words) => renew_token(rt, words),
+        Plan::RenewToken(words) => renew_token(rt, words, err),
         Plan::History(words) => tell_history(rt, words, out),
         Plan::Replay(words) => replay(rt, words),
-        Plan::BeginHistory(words) => begin_history(rt, words),
+        Plan::BeginHistory(words) => begin_history(rt, words, err),
     }
 }
 

@@ -6,6 +6,7 @@ ghost use Rattle.permit_cli.specs.Reasons.{history_reason, reason_for, reason_li
 use crate::standing::Standing;
 use permit_base::words::Edition;
 use permit_store::store::OpenError;
+use permit_subcommands::explaining::line_reason;
 use permit_subcommands::failure::HistoryFailure;
 
 /// Why a database can't be used, as it is found after the failure.
@@ -118,9 +119,8 @@ pub(crate) fn history_reason(why: HistoryFailure) -> &'static str
         HistoryFailure::Differs => {
             "the tables are not those that the text tells: something was done without --history, or one of the two is another office's or an older copy"
         }
-        HistoryFailure::Line(_) => {
-            "that line is no entry of a history, or may not follow those before it"
-        }
+        HistoryFailure::Changed => "the first lines have another SHA-256, or there are fewer",
+        HistoryFailure::Line(_, reason) => line_reason(reason),
         HistoryFailure::Short => {
             "the text ends before its second line, so it is no office's history"
         }
@@ -128,6 +128,8 @@ pub(crate) fn history_reason(why: HistoryFailure) -> &'static str
         HistoryFailure::Copy => {
             "the text begins with a copy of the database that begin-history was given: name it by --from, as it was then"
         }
+        HistoryFailure::Itself => "the copy that is named by --from is the database itself",
+        HistoryFailure::Unused => "there is a history, which isn't named",
         HistoryFailure::Store => {
             "another program has the file open, it is no regular file or has a second name, there is no right to it, or the disk is full or fails"
         }

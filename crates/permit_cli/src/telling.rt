@@ -1,18 +1,22 @@
 //! What is printed of an outcome or a failure, and the program's status.
 
-ghost use Rattle.std.specs.Prelude.{◌≡◌, ◌≤◌, IfOk, Ok, string_bytes};
+ghost use Rattle.std.specs.Prelude.{◌≡◌, ◌≤◌, ◌++◌, IfOk, Ok, string_bytes};
+ghost use Rattle.permit_chronicle.specs.Evidence.{evidence_line};
+ghost use Rattle.permit_subcommands.specs.Lines.{sound_line};
 ghost use Rattle.permit_subcommands.specs.Printing.{TellsNoPlan};
-ghost use Rattle.permit_cli.specs.Telling.{begun_line, difference_text, party_line, replayed_line, IsTold, NamesPlace, PrintsThen, SaysNoPlan, TellsBegun};
+ghost use Rattle.permit_cli.specs.Telling.{begun_line, difference_text, party_line, replayed_line, IsTold, MakesAndPrints, NamesPlace, PrintsThen, SaysLacking, SaysNoPlan, TellsBegun};
 
-use crate::complaining::{complain, print_three};
-use crate::outcome::Outcome;
-use itoa::Buffer;
+use crate::complaining::{complain, print_number, print_three, print_two};
 use permit_args::plan::PlanFault;
 use permit_base::values::Day;
+use permit_chronicle::{evidence_text, lacks_text, verified_text};
+use permit_database::outcome::Outcome;
 use permit_days::dates::date_text;
+use permit_history::Evidence;
 use permit_replay::alike::differing::Difference;
 use permit_replay::opening::bringing::Brought;
 use permit_sql::fault::Fault;
+use permit_store::rows::Desk;
 use permit_store::store::OpenError;
 use permit_subcommands::answering::show;
 use permit_subcommands::failure::{Failure, HistoryFailure, status_after};
@@ -48,12 +52,27 @@ fn tell_text<O: Write>(out: &mut O, text: &str) -> Result<u8, Failure>
     Ok(0)
 }
 
+/// Prints that tables are sound, and the evidence of the lines of a history whose tables they are. Both lines are made before the first
+/// is printed.
+fn tell_beside<O: Write>(
+    alloc: Global,
+    desk: &Desk,
+    evidence: &Evidence,
+    out: &mut O,
+) -> Result<u8, Failure>
+    ensures { MakesAndPrints (sound_line desk.now ++ evidence_line evidence.now) (Ok 0) (O.contents out.old) (O.contents out.new) result }
+{
+    let sound = sound_text(alloc, desk)?;
+    let lines = evidence_text(alloc, evidence)?;
+    print_two(out, sound.as_str(), lines.as_str())?;
+    Ok(0)
+}
+
 /// Prints the number of a party, after which the run ends with status 0. No memory is taken for it.
 fn tell_party<O: Write>(out: &mut O, party: u32) -> Result<u8, Failure>
     ensures { PrintsThen (party_line party) (Ok 0) (O.contents out.old) (O.contents out.new) result }
 {
-    let mut digits = Buffer::new();
-    print_three(out, "party ", digits.format(party), "\n")?;
+    print_number(out, "party ", u64::from(party), "\n")?;
     Ok(0)
 }
 
@@ -116,6 +135,18 @@ fn say_differing<E: Write>(alloc: Global, path: &str, place: Difference, err: &m
     }
 }
 
+/// Says how many of a history's commands the tables of a database lack, where they lack any. Without memory for its text nothing is
+/// said.
+fn say_lacking<E: Write>(alloc: Global, lacking: u64, err: &mut E)
+    ensures { SaysLacking lacking (E.contents err.old) (E.contents err.new) }
+{
+    if lacking != 0
+        && let Ok(text) = lacks_text(alloc, lacking)
+    {
+        let _ = print_text(err, text.as_str());
+    }
+}
+
 /// Prints what a plan came to on the database at a path, and gives the status. The refusal that an answer has is the failure then,
 /// and damage is once its place is said on `err`.
 pub(crate) fn tell<O: Write, E: Write>(
@@ -135,6 +166,7 @@ pub(crate) fn tell<O: Write, E: Write>(
         Outcome::Founded => tell_text(out, "party 1\n"),
         Outcome::Upgraded(files) => tell_text(out, upgraded_text(alloc, *files)?.as_str()),
         Outcome::Sound(desk) => tell_text(out, sound_text(alloc, desk)?.as_str()),
+        Outcome::SoundBeside(desk, evidence) => tell_beside(alloc, desk, evidence, out),
         Outcome::Unsound(fault) => {
             say_unsound(alloc, path, *fault, err);
             Err(Failure::Database(OpenError::Damaged))
@@ -148,7 +180,12 @@ pub(crate) fn tell<O: Write, E: Write>(
             Ok(0)
         }
         Outcome::Listed(listing) => tell_text(out, listing_text(alloc, listing)?.as_str()),
-        Outcome::Registered | Outcome::Ended | Outcome::Told => Ok(0),
+        Outcome::Registered | Outcome::Ended | Outcome::Told | Outcome::Standing(_) => Ok(0),
+        Outcome::ToldBeside(lacking) => {
+            say_lacking(alloc, *lacking, err);
+            Ok(0)
+        }
+        Outcome::Verified(lines) => tell_text(out, verified_text(alloc, *lines)?.as_str()),
         Outcome::Imported(tally) => Ok(status_after(tally)),
         Outcome::Renewed(party) => tell_party(out, *party),
         Outcome::Begun(day) => tell_begun(alloc, *day, out),

@@ -12,6 +12,7 @@ use permit_core::state::FileState;
 use permit_days::dates::{date_text, read_date};
 use permit_days::instants::day_of;
 use permit_http::inbox::Inbox;
+use permit_office::log::NoLog;
 use permit_office::office::Office;
 use permit_office::reply::Reply;
 use permit_policy::decide::decide;
@@ -140,7 +141,7 @@ fn loaded(rt: &impl Abort, alloc: Global, mut store: PlainStore) -> Result<Plain
 }
 
 fn opened(store: PlainStore, policy: Policy) -> Result<Office<PlainStore>, Fail> {
-    let Ok(mut office) = Office::open(store, policy) else {
+    let Ok(mut office) = Office::open(store, policy, NoLog) else {
         return Err(Fail::new("no office"));
     };
     Ok(office)
@@ -160,11 +161,19 @@ fn closed(rt: &impl Abort, office: Office<PlainStore>) -> Result<(), Fail> {
     Ok(())
 }
 
+fn parted(rt: &impl Abort, office: Office<PlainStore>) -> Result<(), Fail> {
+    let (mut store, _log) = office.into_parts();
+    assert!(rt; store.desk()?.files == 0);
+    Ok(())
+}
+
 fn offices(rt: &impl Abort, alloc: Global) -> Result<(), Fail> {
     let store = loaded(rt, alloc, founded(rt, alloc)?)?;
     let mut office = opened(store, read_policy(alloc, POLICY)?)?;
     listed(rt, &mut office, token(alloc, TOKENS[0])?, day(19700)?);
-    closed(rt, office)
+    closed(rt, office)?;
+    let store = founded(rt, alloc)?;
+    parted(rt, opened(store, read_policy(alloc, POLICY)?)?)
 }
 
 fn routed(rt: &impl Abort, alloc: Global) {

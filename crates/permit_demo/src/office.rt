@@ -3,6 +3,7 @@
 use anyhow::{Result, anyhow};
 use permit_base::digests::digest;
 use permit_base::values::{Day, Text, Token};
+use permit_office::log::NoLog;
 use permit_office::office::Office;
 use permit_policy::text::read_policy;
 use permit_store::founder::Founder;
@@ -24,7 +25,7 @@ pub fn found(alloc: Global, policy: &str, token: &str) -> Result<Office<PlainSto
     let Ok(policy) = read_policy(alloc, policy) else {
         return Err(anyhow!("no policy"));
     };
-    match Office::open(store, policy) {
+    match Office::open(store, policy, NoLog) {
         Ok(office) => Ok(office),
         Err(_) => Err(anyhow!("no office")),
     }

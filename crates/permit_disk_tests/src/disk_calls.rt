@@ -7,6 +7,7 @@ use crate::trials::{
     Tried, closed, connected, ended, found, outlasts_each, prepared, stored, tables_in,
 };
 use permit_mirror::mirrored::Mirrored;
+use permit_office::log::NoLog;
 use permit_office::office::Office;
 use permit_policy::text::read_policy;
 use permit_samples::ask::read_ask;
@@ -120,14 +121,14 @@ fn served<S: Store + Drop>(
     told: &Told,
 ) -> Result<(S, Outcome), Fail> {
     let policy = read_policy(alloc, commands.begin.policy())?;
-    match Office::open(store, policy) {
+    match Office::open(store, policy, NoLog) {
         Ok(office) => {
             let mut office = Held::new(office);
             let answered = serve_all(alloc, &mut office.value, commands, told)?;
             let store = office.into_inner().into_store();
             Ok((store, Outcome::Answered(answered)))
         }
-        Err((store, _)) => Ok((store, Outcome::Unopened { is_founded: true })),
+        Err((store, _, _)) => Ok((store, Outcome::Unopened { is_founded: true })),
     }
 }
 

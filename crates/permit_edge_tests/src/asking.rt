@@ -1,7 +1,7 @@
 //! What is printed for a request to an office over vectors, and of an answer that is a refusal.
 
 use permit_answer::answer::Answer;
-use permit_args::plan::{ActWords, DayWords, OfficeWords, TokenWords};
+use permit_args::plan::{ActWords, DayWords, Keeping, OfficeWords, TokenWords};
 use permit_base::refusal::{Reason, Refusal};
 use permit_base::values::RuleName;
 use permit_base::words::Action;
@@ -61,7 +61,7 @@ fn asked<'x>(
             },
             why: false,
         },
-        history: None,
+        history: Keeping::Unsaid,
         method,
         path,
         body: None,

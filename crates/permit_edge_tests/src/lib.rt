@@ -7,6 +7,10 @@ mod asking;
 #[cfg(test)]
 mod examples;
 #[cfg(test)]
+mod failures;
+#[cfg(test)]
+mod histories;
+#[cfg(test)]
 mod policies;
 #[cfg(test)]
 mod registers;

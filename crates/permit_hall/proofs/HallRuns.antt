@@ -11,6 +11,7 @@ use Rattle.permit_model.specs.HallRun.{acting_after, served, collected, collecte
 use Rattle.permit_store.specs.Frames.{StoreView}
 use Rattle.permit_office.specs.declared.reply.Reply.{Reply}
 use Rattle.permit_office.specs.Office.{OfficeView}
+use Rattle.permit_office.specs.declared.log.Log.{Ghosts}
 use Rattle.permit_hall.specs.Runs.{Entry, Runs, replies_of}
 use Rattle.permit_hall.specs.Counts.{Acted, after, acted, acted_from, sessions, puts_now, given_to, AreTaken, AreGiven}
 use Rattle.permit_hall.specs.OfficeSteps.{StepFor, IsRun}
@@ -189,16 +190,17 @@ module _ {A Y : Type 0} (events : List (Event A)) (es : List (Entry A Y)) (given
       mine ∙ ap (λ cs. collected_after (map answer es) [] cs) g.0 ∙ ap (λ l. collected_after l [] (collects (acting events)))
       (sym (answers_served (puts (acting events)) es (as_long t)))
 
-pub hall_runs : {S : Type 0} (view : S → StoreView) (events : List (Event Asked)) (given : List (ℕ × Reply)) (old new : OfficeView S)
+pub hall_runs : {S L : Type 0} (view : S → StoreView) (log : Ghosts L) (events : List (Event Asked)) (given : List (ℕ × Reply)) (old new : OfficeView S L)
     (es : List (Entry Asked Reply))
-    → Runs (StepFor view) old es new → AreTaken (acted events) es → AreGiven (acted events) es given → (replies : List Reply)
-    × HallRuns view events given old new replies
-hall_runs view events given old new es runs taken collected =
+    → Runs (StepFor view log) old es new → AreTaken (acted events) es → AreGiven (acted events) es given → (replies : List Reply)
+    × HallRuns view log events given old new replies
+hall_runs view log events given old new es runs taken collected =
     let t = subst (λ h. AreTaken h es) (acting_is events) taken in
     let g = subst (λ h. AreGiven h es given) (acting_is events) collected in
     let replies = map (λ (e : Entry Asked Reply). e.reply) es in
-    let run : IsRun view (served events) replies old new =
-    subst (λ rs. IsRun view rs replies old new) (served_is events es given t) (is_run view (λ y. y) (StepFor view) (λ o a d y p s. s) old es new runs) in
+    let run : IsRun view log (served events) replies old new =
+    subst (λ rs. IsRun view log rs replies old new) (served_is events es given t)
+    (is_run view log (λ y. y) (StepFor view log) (λ o a d y p s. s) old es new runs) in
     let are = given_is events es given t g in (
       replies,
       record {

@@ -7,6 +7,7 @@ use Rattle.permit_base.specs.declared.request.Asked.{Asked}
 use Rattle.permit_store.specs.Frames.{StoreView}
 use Rattle.permit_office.specs.declared.reply.Reply.{Reply}
 use Rattle.permit_office.specs.Office.{OfficeView}
+use Rattle.permit_office.specs.declared.log.Log.{Ghosts}
 use Rattle.permit_wire.specs.Serving.{StepsOn}
 use Rattle.permit_wire.specs.declared.service.Dated.{Dated}
 use Rattle.permit_hall.specs.declared.lists.ListTask.{ListTask}
@@ -24,11 +25,11 @@ abbrev list_done : Vec Asked Global → List Asked → List Dated → Vec Reply 
 list_done list put got answers = (put ≡ list.items) × (map (λ d. d.reply) got ≡ answers.items)
 
 -- a run of an office is one history of it
-pub one_history : {S C : Type 0} (view : S → StoreView) (tick : C → ℕ → C → Type 0) (sessions : ℕ) (old new : OfficeView S) (c d : C)
-    (served : List (Entry Asked Dated))
-    → OneRun (StepsOn view) tick sessions old new c d served → OneHistory view tick sessions old new c d served
-one_history view tick sessions old new c d served h = record {
-  run = is_run view (λ d. d.reply) (StepsOn view) (λ o a d y p s. s.0) old served new h.runs;
+pub one_history : {S L C : Type 0} (view : S → StoreView) (log : Ghosts L) (tick : C → ℕ → C → Type 0) (sessions : ℕ) (old new : OfficeView S L)
+    (c d : C) (served : List (Entry Asked Dated))
+    → OneRun (StepsOn view log) tick sessions old new c d served → OneHistory view log tick sessions old new c d served
+one_history view log tick sessions old new c d served h = record {
+  run = is_run view log (λ d. d.reply) (StepsOn view log) (λ o a d y p s. s.0) old served new h.runs;
   days = h.days;
   each = h.each;
 }
@@ -60,16 +61,17 @@ module _ {S C : Type 0} (did : S → Asked → ℕ → Dated → S → Type 0) (
             (by_door.right k door end (slice_get_within doors k door at))),
       )
 
-module _ {S C : Type 0} (view : S → StoreView) (tick : C → ℕ → C → Type 0) where
+module _ {S L C : Type 0} (view : S → StoreView) (log : Ghosts L) (tick : C → ℕ → C → Type 0) where
   -- what the workers of lists have done
-  pub lists_served : (tasks : List ListTask) (lists : List (Vec Asked Global)) (outs : List (Option (Vec Reply Global))) (old new : OfficeView S) (c d : C)
+  pub lists_served : (tasks : List ListTask) (lists : List (Vec Asked Global)) (outs : List (Option (Vec Reply Global))) (old new : OfficeView S L) (c d : C)
       (served : List (Entry Asked Dated))
-      → map (λ t. t.list) tasks ≡ lists → AreServed (StepsOn view) tick (λ t put got answers. list_done t.list put got answers) tasks outs old new c d served
-      → OneHistory view tick (length lists) old new c d served × AreListsServed lists outs served
+      → map (λ t. t.list) tasks ≡ lists
+      → AreServed (StepsOn view log) tick (λ t put got answers. list_done t.list put got answers) tasks outs old new c d served
+      → OneHistory view log tick (length lists) old new c d served × AreListsServed lists outs served
   lists_served tasks lists outs old new c d served same h =
-      let by_list = served_as (StepsOn view) tick (λ (t : ListTask) put got answers. list_done t.list put got answers) list_done (λ t. t.list)
+      let by_list = served_as (StepsOn view log) tick (λ (t : ListTask) put got answers. list_done t.list put got answers) list_done (λ t. t.list)
       (λ t put got x d. d) tasks lists outs old new c d served same h in (
-        one_history view tick (length lists) old new c d served (one_run (StepsOn view) tick list_done lists outs old new c d served by_list),
+        one_history view log tick (length lists) old new c d served (one_run (StepsOn view log) tick list_done lists outs old new c d served by_list),
         record {
           count = by_list.len;
           each = λ k list out at at'.

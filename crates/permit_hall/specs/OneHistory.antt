@@ -5,6 +5,7 @@ use Rattle.permit_base.specs.declared.request.Asked.{Asked}
 use Rattle.permit_store.specs.Frames.{StoreView}
 use Rattle.permit_office.specs.declared.reply.Reply.{Reply}
 use Rattle.permit_office.specs.Office.{OfficeView}
+use Rattle.permit_office.specs.declared.log.Log.{Ghosts}
 use Rattle.permit_wire.specs.declared.service.Dated.{Dated}
 use Rattle.permit_hall.specs.OfficeSteps.{IsRun}
 use Rattle.permit_hall.specs.Runs.{Entry, Gives, days_of, requests_of, replies_of}
@@ -19,9 +20,9 @@ replies_in served = map (λ e. e.reply.reply) served
 
 -- The requests served, each of one of the sessions, are one run of the office. The clock is asked once for each, as it is
 -- taken, and goes from c to d.
-pub record OneHistory {S C : Type 0} (view : S → StoreView) (tick : C → ℕ → C → Type 0) (sessions : ℕ)
-    (old new : OfficeView S) (c d : C) (served : List (Entry Asked Dated)) : Type 0 where
-  pub run : IsRun view (requests_on served) (replies_in served) old new
+pub record OneHistory {S L C : Type 0} (view : S → StoreView) (log : Ghosts L) (tick : C → ℕ → C → Type 0) (sessions : ℕ)
+    (old new : OfficeView S L) (c d : C) (served : List (Entry Asked Dated)) : Type 0 where
+  pub run : IsRun view log (requests_on served) (replies_in served) old new
   pub days : Gives tick c (days_of served) d
   pub each : All (λ e. e.from < sessions) served
 

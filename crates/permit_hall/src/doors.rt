@@ -16,6 +16,7 @@ use crate::tasks::run_tasks;
 use crate::worker::Task;
 use permit_base::request::Asked;
 use permit_base::values::Day;
+use permit_office::log::{Log, NoLog};
 use permit_office::office::Office;
 use permit_store::store::Store;
 use permit_wire::{Dated, Inbox, Routes, Service, serve_by};
@@ -192,16 +193,16 @@ where
     }
 }
 
-/// What a hall over doors leaves of an office: the office, and of each session what `DoorsEnd` has.
+/// What a hall over doors leaves of an office, with or without a history: the office, and of each session what `DoorsEnd` has.
 #[derive(Drop)]
-pub struct HallEnd<S: Store + Drop, D: Drop> {
-    pub office: Office<S>,
+pub struct HallEnd<S: Store + Drop, D: Drop, L: Log + Drop = NoLog> {
+    pub office: Office<S, L>,
     pub doors: Vec<Option<DoorEnd<D>>>,
 }
 
-/// Serves the connections of doors for an office, as `run_doors` does for any service. A request that is refused for the
-/// store has its refusal at its place, and has changed nothing. With an error the office comes back as it was, no clock
-/// was asked, and the doors are dropped.
+/// Serves the connections of doors for an office, with or without a history, as `run_doors` does for any service. A
+/// request that is refused for the store has its refusal at its place, and has changed nothing. With an error the office
+/// comes back as it was, no clock was asked, and the doors are dropped.
 ///
 /// # Examples
 ///
@@ -213,23 +214,24 @@ pub struct HallEnd<S: Store + Drop, D: Drop> {
 /// ```
 pub fn run_hall<
     S: Store + Drop,
+    L: Log + Drop,
     D,
     C: FnMut() -> Day,
     R: Threads + Wait + Copy + Drop + Send + 'static,
 >(
     rt: R,
     alloc: Global,
-    office: Office<S>,
+    office: Office<S, L>,
     doors: Vec<D>,
     clock: &mut C,
-) -> Result<HallEnd<S, D>, (Office<S>, HallError)>
+) -> Result<HallEnd<S, D, L>, (Office<S, L>, HallError)>
 where
     D: Door + Drop + Send + 'static,
     D::In: Drop + Send + 'static,
     D::Out: Drop + Send + 'static,
     requires { C.IsAlwaysCallable clock.old }
     ensures history { IfOk result (λ end. (served : List (Entry Asked Dated))
-        × OneHistory S.view C.step (length doors.items) office end.office clock.old clock.new served
+        × OneHistory S.view L.Log C.step (length doors.items) office end.office clock.old clock.new served
         × AreDoorsServed D.In.remaining D.Out.contents D.gave D.spent doors.items end.doors.items served) }
     ensures opens { IfOk result (λ end. is_count (length doors.items) ≡ true) }
     ensures back { IfErr result (λ back. back.0 ≡ office) }

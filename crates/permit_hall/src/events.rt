@@ -12,6 +12,7 @@ ghost use Rattle.permit_hall.specs.Events.{event_of, HallRuns};
 use crate::queues::{ROOM, collect, put, take_one};
 use permit_base::request::Asked;
 use permit_base::values::Day;
+use permit_office::log::Log;
 use permit_office::office::Office;
 use permit_office::reply::Reply;
 use permit_store::store::Store;
@@ -30,8 +31,8 @@ pub enum Event {
 }
 
 /// One event.
-fn act<'a, S: Store + Drop>(
-    office: &mut Office<S>,
+fn act<'a, S: Store + Drop, L: Log + Drop>(
+    office: &mut Office<S, L>,
     queue: &mut Vec<(u8, &'a Asked)>,
     ready: &mut Vec<(u8, Reply)>,
     answers: &mut Vec<(u8, Reply)>,
@@ -43,19 +44,20 @@ fn act<'a, S: Store + Drop>(
     ensures queue { vec_capacity queue.new ≡ vec_capacity queue.old }
     ensures ready { GrowsByOneAtMost ready.old ready.new }
     ensures answers { GrowsByOneAtMost answers.old answers.new }
-    ensures at { (start : OfficeView S) (h : Acted Asked)
-        → IsAt (StepFor S.view) start office.old h (map (λ q. (q.0, q.1.now)) queue.old.items) ready.old.items answers.old.items
-        → IsAt (StepFor S.view) start office.new (after h (event_of event.now))
+    ensures at { (start : OfficeView S L) (h : Acted Asked)
+        → IsAt (StepFor S.view L.Log) start office.old h (map (λ q. (q.0, q.1.now)) queue.old.items) ready.old.items answers.old.items
+        → IsAt (StepFor S.view L.Log) start office.new (after h (event_of event.now))
         (map (λ q. (q.0, q.1.now)) queue.new.items) ready.new.items answers.new.items }
 {
     match event {
-        Event::Put(session, asked) => put::<S>(queue, ready, *session, asked),
+        Event::Put(session, asked) => put::<S, L>(queue, ready, *session, asked),
         Event::Take(day) => take_one(office, queue, ready, *day),
-        Event::Collect(session) => collect::<S>(ready, answers, *session),
+        Event::Collect(session) => collect::<S, L>(ready, answers, *session),
     }
 }
 
-/// Runs the events, and gives the answers collected, in order, each with its session.
+/// Runs the events on an office, with or without a history, and gives the answers collected, in order, each with its
+/// session.
 ///
 /// Room for all is made first, so an error means that nothing was done. A request that is refused for the store has its
 /// refusal at its place, and has changed nothing.
@@ -70,13 +72,13 @@ fn act<'a, S: Store + Drop>(
 /// };
 /// assert!(rt; *session == 0 && matches!(reply, Reply::Listed(_)));
 /// ```
-pub fn hall_run<S: Store + Drop>(
+pub fn hall_run<S: Store + Drop, L: Log + Drop>(
     alloc: Global,
-    office: &mut Office<S>,
+    office: &mut Office<S, L>,
     events: &[Event],
 ) -> Result<Vec<(u8, Reply)>, AllocError>
     ensures run { IfOk result (λ answers. (replies : List Reply)
-        × HallRuns S.view (map event_of events.now) answers.items office.old office.new replies) }
+        × HallRuns S.view L.Log (map event_of events.now) answers.items office.old office.new replies) }
     ensures err { OnErr result (office.new ≡ office.old) }
 {
     let mut queue = Vec::with_capacity(alloc, ROOM)?;

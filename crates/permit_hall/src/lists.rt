@@ -14,6 +14,7 @@ use crate::tasks::run_tasks;
 use crate::worker::Task;
 use permit_base::request::Asked;
 use permit_base::values::Day;
+use permit_office::log::{Log, NoLog};
 use permit_office::office::Office;
 use permit_office::reply::Reply;
 use permit_store::store::Store;
@@ -61,15 +62,16 @@ fn list_tasks(alloc: Global, lists: Vec<Vec<Asked>>) -> Result<Vec<ListTask>, Al
     Ok(all)
 }
 
-/// What a hall over lists leaves: the office, and for each list the replies to its requests in their order, or `None`
-/// where its worker could not be started. Then none of its requests was served.
+/// What a hall over lists leaves: the office, with or without a history, and for each list the replies to its requests
+/// in their order, or `None` where its worker could not be started. Then none of its requests was served.
 #[derive(Drop)]
-pub struct ListsEnd<S: Store + Drop> {
-    pub office: Office<S>,
+pub struct ListsEnd<S: Store + Drop, L: Log + Drop = NoLog> {
+    pub office: Office<S, L>,
     pub answers: Vec<Option<Vec<Reply>>>,
 }
 
-/// Serves lists of requests, one worker a list, 1 to 8 of them, while the calling thread owns the office.
+/// Serves lists of requests, one worker a list, 1 to 8 of them, while the calling thread owns the office, with or without a
+/// history.
 ///
 /// Each worker puts its list's requests into the intake, in order, each once it has the answer to the one before. The
 /// office serves them one at a time, in one order for all lists, each on a day that the clock gives as it is taken. A
@@ -86,18 +88,19 @@ pub struct ListsEnd<S: Store + Drop> {
 /// ```
 pub fn run_lists<
     S: Store + Drop,
+    L: Log + Drop,
     C: FnMut() -> Day,
     R: Threads + Wait + Copy + Drop + Send + 'static,
 >(
     rt: R,
     alloc: Global,
-    office: Office<S>,
+    office: Office<S, L>,
     lists: Vec<Vec<Asked>>,
     clock: &mut C,
-) -> Result<ListsEnd<S>, (Office<S>, HallError)>
+) -> Result<ListsEnd<S, L>, (Office<S, L>, HallError)>
     requires { C.IsAlwaysCallable clock.old }
     ensures history { IfOk result (λ end. (served : List (Entry Asked Dated))
-        × OneHistory S.view C.step (length lists.items) office end.office clock.old clock.new served
+        × OneHistory S.view L.Log C.step (length lists.items) office end.office clock.old clock.new served
         × AreListsServed lists.items end.answers.items served) }
     ensures opens { IfOk result (λ end. is_count (length lists.items) ≡ true) }
     ensures back { IfErr result (λ back. back.0 ≡ office) }

@@ -11,6 +11,7 @@ ghost use Rattle.permit_hall.specs.OfficeSteps.{StepFor};
 
 use permit_base::request::Asked;
 use permit_base::values::Day;
+use permit_office::log::Log;
 use permit_office::office::Office;
 use permit_office::reply::Reply;
 use permit_store::store::Store;
@@ -36,7 +37,7 @@ fn place<Y>(pairs: &[(u8, Y)], number: u8) -> Option<usize>
 }
 
 /// A request is put where its session has nothing out and there is room.
-pub fn put<'a, S: Store + Drop>(
+pub fn put<'a, S: Store + Drop, L: Log + Drop>(
     queue: &mut Vec<(u8, &'a Asked)>,
     ready: &Vec<(u8, Reply)>,
     session: u8,
@@ -44,9 +45,9 @@ pub fn put<'a, S: Store + Drop>(
 )
     requires room { 64 ≤ vec_capacity queue.old }
     ensures room { vec_capacity queue.new ≡ vec_capacity queue.old }
-    ensures at { (start end : OfficeView S) (h : Acted Asked) (given : List (ℕ × Reply))
-        → IsAt (StepFor S.view) start end h (map (λ q. (q.0, q.1.now)) queue.old.items) ready.now.items given
-        → IsAt (StepFor S.view) start end (after h (Put session asked.now)) (map (λ q. (q.0, q.1.now)) queue.new.items) ready.now.items given }
+    ensures at { (start end : OfficeView S L) (h : Acted Asked) (given : List (ℕ × Reply))
+        → IsAt (StepFor S.view L.Log) start end h (map (λ q. (q.0, q.1.now)) queue.old.items) ready.now.items given
+        → IsAt (StepFor S.view L.Log) start end (after h (Put session asked.now)) (map (λ q. (q.0, q.1.now)) queue.new.items) ready.now.items given }
 {
     if queue.len() >= ROOM {
         return;
@@ -61,8 +62,8 @@ pub fn put<'a, S: Store + Drop>(
 }
 
 /// The oldest request is served, where one waits.
-pub fn take_one<'a, S: Store + Drop>(
-    office: &mut Office<S>,
+pub fn take_one<'a, S: Store + Drop, L: Log + Drop>(
+    office: &mut Office<S, L>,
     queue: &mut Vec<(u8, &'a Asked)>,
     ready: &mut Vec<(u8, Reply)>,
     day: Day,
@@ -70,9 +71,9 @@ pub fn take_one<'a, S: Store + Drop>(
     requires room { length ready.old.items < vec_capacity ready.old }
     ensures queue { vec_capacity queue.new ≡ vec_capacity queue.old }
     ensures ready { GrowsByOneAtMost ready.old ready.new }
-    ensures at { (start : OfficeView S) (h : Acted Asked) (given : List (ℕ × Reply))
-        → IsAt (StepFor S.view) start office.old h (map (λ q. (q.0, q.1.now)) queue.old.items) ready.old.items given
-        → IsAt (StepFor S.view) start office.new (after h (Take day)) (map (λ q. (q.0, q.1.now)) queue.new.items) ready.new.items given }
+    ensures at { (start : OfficeView S L) (h : Acted Asked) (given : List (ℕ × Reply))
+        → IsAt (StepFor S.view L.Log) start office.old h (map (λ q. (q.0, q.1.now)) queue.old.items) ready.old.items given
+        → IsAt (StepFor S.view L.Log) start office.new (after h (Take day)) (map (λ q. (q.0, q.1.now)) queue.new.items) ready.new.items given }
 {
     if queue.is_empty() {
         return;
@@ -83,7 +84,7 @@ pub fn take_one<'a, S: Store + Drop>(
 }
 
 /// The session's answer is collected, where one is ready.
-pub fn collect<S: Store + Drop>(
+pub fn collect<S: Store + Drop, L: Log + Drop>(
     ready: &mut Vec<(u8, Reply)>,
     answers: &mut Vec<(u8, Reply)>,
     session: u8,
@@ -91,9 +92,9 @@ pub fn collect<S: Store + Drop>(
     requires room { length answers.old.items < vec_capacity answers.old }
     ensures ready { (vec_capacity ready.new ≡ vec_capacity ready.old) × (length ready.new.items ≤ length ready.old.items) }
     ensures answers { GrowsByOneAtMost answers.old answers.new }
-    ensures at { (start end : OfficeView S) (h : Acted Asked) (queue : List (ℕ × Asked))
-        → IsAt (StepFor S.view) start end h queue ready.old.items answers.old.items
-        → IsAt (StepFor S.view) start end (after h (Collect session)) queue ready.new.items answers.new.items }
+    ensures at { (start end : OfficeView S L) (h : Acted Asked) (queue : List (ℕ × Asked))
+        → IsAt (StepFor S.view L.Log) start end h queue ready.old.items answers.old.items
+        → IsAt (StepFor S.view L.Log) start end (after h (Collect session)) queue ready.new.items answers.new.items }
 {
     let Some(at) = place(ready.as_slice(), session) else {
         return;

@@ -11,3 +11,8 @@ pub mod ToldHistories
 pub mod LineByLine
 pub mod Renewals
 pub mod Beginnings
+pub mod FirstLines
+pub mod PrefixLemmas
+pub mod FirstEntries
+pub mod HexLetters
+pub mod LineEndLemmas

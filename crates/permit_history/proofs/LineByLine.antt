@@ -78,7 +78,7 @@ line_or other None = other
 line_or other (Some line) = line
 
 -- the bytes are the next line, an LF and what is after it
-cut_at : (bytes line : List ℕ) → next_line bytes ≡ Some line → bytes ≡ line ++ 10 ∷ drop_through 10 bytes
+pub cut_at : (bytes line : List ℕ) → next_line bytes ≡ Some line → bytes ≡ line ++ 10 ∷ drop_through 10 bytes
 cut_at [] line e = absurd cc
 cut_at (x ∷ later) line e = by_first (λ l. cut_at later l) (x == 10) refl e
   where

@@ -8,3 +8,7 @@ pub mod Told
 pub mod Text
 pub mod Examples
 pub mod Meaning
+pub mod Evidence
+pub mod Prefixes
+pub mod Settled
+pub mod LineEnds

@@ -1,12 +1,13 @@
 //! Laws of lines and texts: functions with nothing to do, whose contracts are the laws.
 
-ghost use Rattle.std.specs.Prelude.{◌≡◌, ◌↔◌, ◌≤◌, ◌==◌, ◌++◌, [], ◌∷◌, not, ℕ, IsTrue, List, length};
+ghost use Rattle.std.specs.Prelude.{◌≡◌, ◌↔◌, ◌≤◌, ◌==◌, ◌++◌, [], ◌∷◌, not, ℕ, IsTrue, List, Some, length};
 ghost use Rattle.std.specs.List.{list_all};
 ghost use Rattle.std.specs.Str.{is_utf8};
 ghost use Rattle.permit_model.specs.History.{History};
 ghost use Rattle.permit_base.specs.Digests.{digest_of};
 ghost use Rattle.permit_model.specs.Renewal.{renewed};
 ghost use Rattle.permit_model.specs.Machine.{IsHistory};
+ghost use Rattle.permit_history.specs.Evidence.{lines_of};
 ghost use Rattle.permit_history.specs.LineData.{line_of, text_of};
 ghost use Rattle.permit_history.specs.LineRead.{longest_line, reading_of};
 ghost use Rattle.permit_history.specs.Meaning.{Tells, begins_none, meant};
@@ -40,6 +41,13 @@ pub fn a_text_is_read_entry_by_entry()
     ensures all { (entries : List Entry) (left : List ℕ) → IsTrue (list_all is_within entries) → GivesInTurn (text_of entries ++ left) entries left }
     ensures only { (bytes : List ℕ) (entries : List Entry) (left : List ℕ) → GivesInTurn bytes entries left → bytes ≡ text_of entries ++ left }
     ensures end { (left : List ℕ) → (next_line left ≡ None) ↔ IsTrue (list_all (λ byte. not (byte == 10)) left) }
+{}
+
+/// The first lines of a text are those of its first entries, and what is appended changes none of them.
+pub fn first_lines_are_those_of_first_entries()
+    ensures entries { (bytes : List ℕ) (entries : List Entry) (left : List ℕ) → GivesInTurn bytes entries left
+        → lines_of (length entries) bytes ≡ Some (text_of entries) }
+    ensures appended { (n : ℕ) (bytes more lines : List ℕ) → lines_of n bytes ≡ Some lines → lines_of n (bytes ++ more) ≡ Some lines }
 {}
 
 /// Each entry of a history is in its text: one line for each.

@@ -5,16 +5,20 @@
 #![tactic(auto)]
 
 pub mod entry;
+pub mod evidence;
 pub mod examples;
 pub mod fault;
 mod fields;
 pub mod laws;
 mod member;
 mod read;
+mod settled;
 pub mod text;
 mod within;
 mod write;
 
+pub use evidence::{Evidence, digest_of_hash, digest_of_lines, evidence_of, verify};
 pub use read::{LONGEST_LINE, read_line};
+pub use settled::settled_length;
 pub use text::next_entry;
 pub use write::write_line;

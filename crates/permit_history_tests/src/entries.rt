@@ -5,6 +5,8 @@ mod commands;
 #[cfg(test)]
 mod deeds;
 #[cfg(test)]
+mod evidence;
+#[cfg(test)]
 mod examples;
 #[cfg(test)]
 mod faults;

@@ -3,10 +3,11 @@ use Rattle.std.specs.Prelude.{◌≡◌, ◌≤◌, ◌⊎◌, ℕ, ◌+◌, Boo
 use Rattle.std.specs.Io.KnownBytes.{Appends}
 use Rattle.permit_base.specs.declared.request.Asked.{Asked}
 use Rattle.permit_store.specs.Frames.{StoreView, OverHistory}
-use Rattle.permit_office.specs.Frames.{Steps}
 use Rattle.permit_office.specs.Office.{OfficeView}
+use Rattle.permit_office.specs.declared.log.Log.{Ghosts}
 use Rattle.permit_office.specs.Runs.{Ran}
 use Rattle.permit_office.specs.declared.reply.Reply.{Reply}
+use Rattle.permit_wire.specs.Serving.{StepsOn}
 use Rattle.permit_wire.specs.declared.service.Dated.{Dated}
 use Rattle.permit_import.specs.Headings.{IsHeadless}
 use Rattle.permit_import.specs.Lines.{causes_from, count_line, lines_from, record_line}
@@ -72,14 +73,15 @@ pub record ImportsBy {T : Type 0} (did : T → Asked → ℕ → Dated → T →
   pub ends : EndsOf left before after result rows (outcomes_of rows replies)
   pub causes : TellsCauses asked said saying (outcomes_of rows replies)
 
--- The same by an office, one step for each of those requests: the replies and the tables are the machine's over the requests
--- that the store didn't refuse.
-pub record Imports {S : Type 0} (view : S → StoreView) (token : List ℕ) (day : ℕ) (asked : Bool) (left before after said saying : Option (List ℕ)) (old new : OfficeView S)
-    (result : Result Tally ImportFault) : Type 0 where
+-- The same by an office: each of those requests was one step of it, with the machine's reply at its place, and the step says what
+-- became of the log. Over the whole import the replies and the tables are the machine's over the requests that weren't refused for
+-- the store.
+pub record Imports {S L : Type 0} (view : S → StoreView) (log : Ghosts L) (token : List ℕ) (day : ℕ) (asked : Bool)
+    (left before after said saying : Option (List ℕ)) (old new : OfficeView S L) (result : Result Tally ImportFault) : Type 0 where
   pub rows : List Fields
   pub replies : List Reply
   pub few : length rows ≤ 999999
-  pub steps : Steps view (requests_of token day rows) replies old new
+  pub runs : Runs (StepsOn view log) (requests_of token day rows) replies old new
   pub model : OverHistory (view old.store) (view new.store) (λ h. Ran (view new.store).holds old.policy (requests_of token day rows) replies h)
   pub ends : EndsOf left before after result rows (outcomes_of rows replies)
   pub causes : TellsCauses asked said saying (outcomes_of rows replies)

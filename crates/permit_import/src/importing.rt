@@ -11,6 +11,7 @@ use crate::tally::Tally;
 use crate::writing::{write_cause, write_counts, write_outcome};
 use csv::ByteRecord;
 use permit_base::values::{Day, Token};
+use permit_office::log::Log;
 use permit_office::office::Office;
 use permit_store::store::Store;
 use permit_wire::service::Service;
@@ -88,8 +89,8 @@ pub fn import_by<M: Service<Day>, R: Read + Drop, W: Write, E: Write>(
     Err(ImportFault::Reading)
 }
 
-/// Imports a parcel list for the caller of the token, on the day, as `import_by` does, by an office: each record that is a
-/// request is one step of it.
+/// Imports a parcel list for the caller of the token, on the day, as `import_by` does, by an office, with or without a
+/// history: each record that is a request is one step of it.
 ///
 /// # Examples
 ///
@@ -100,9 +101,9 @@ pub fn import_by<M: Service<Day>, R: Read + Drop, W: Write, E: Write>(
 /// assert!(rt; ended.is_ok());
 /// assert!(rt; out.as_slice() == b"1 added 1\nadded 1 kept 0 refused 0\n".as_slice());
 /// ```
-pub fn import<S: Store + Drop, R: Read + Drop, W: Write, E: Write>(
+pub fn import<S: Store + Drop, L: Log + Drop, R: Read + Drop, W: Write, E: Write>(
     alloc: Global,
-    office: &mut Office<S>,
+    office: &mut Office<S, L>,
     token: &Token,
     day: Day,
     why: bool,
@@ -110,7 +111,7 @@ pub fn import<S: Store + Drop, R: Read + Drop, W: Write, E: Write>(
     out: &mut W,
     causes: &mut E,
 ) -> Result<Tally, ImportFault>
-    ensures imports { Imports S.view token.now day why (R.remaining reader) (W.contents out.old) (W.contents out.new)
+    ensures imports { Imports S.view L.Log token.now day why (R.remaining reader) (W.contents out.old) (W.contents out.new)
         (E.contents causes.old) (E.contents causes.new) office.old office.new result }
     ensures policy { office.new.policy ≡ office.old.policy }
     ensures doubt { (S.view office.old.store).doubt ≤ (S.view office.new.store).doubt }

@@ -1,6 +1,4 @@
 pub mod Files
-pub mod Memory
-pub mod Stopping
 pub mod Journals
 pub mod Ends
 pub mod Parts

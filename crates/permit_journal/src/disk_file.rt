@@ -1,12 +1,13 @@
 //! The file of a history's text on a disk: `DiskFile`, over any disk as the database sees one.
 
 ghost use Rattle.std.specs.Prelude.{◌≡◌, ◌⊎◌, ◌++◌, ◌≤◌, ℕ, List, IfOk, IsErr, IsTrue, None, OnErr, OnOk, Some, length, take};
-ghost use Rattle.permit_journal.specs.Ends.{EndsThere};
+ghost use Rattle.permit_journal.specs.Ends.{EndsThere, IsAtEnd};
 
 use crate::file::{FileError, HistoryFile};
 use sqlite_disk::Disk;
 
-/// A text on a disk. Its end is asked of the disk once, and known from then on.
+/// A text on a disk. Where it ends is asked of the disk once, and known from then on: there `append` writes. `length` asks the disk
+/// each time, and fails where the disk says another end, since another program has changed the file then.
 ///
 /// Where a write at the end of the text has failed, what it left there isn't known: nothing is written until the text is cut. Where
 /// a sync has failed nothing more is asked of the disk.
@@ -73,22 +74,31 @@ impl<D: Disk> HistoryFile for DiskFile<D> {
     ghost use Rattle.permit_journal.specs.Files.{Grown, LeavesGrown, Only};
     ghost use Rattle.std.proofs.Common.{arith};
 
-    ghost text = { λ f. D.Disk.seen f.disk };
-
-    ghost may_leave = { λ f. D.Disk.may_leave f.disk };
-
-    ghost is_clean = { λ f. D.Disk.is_clean f.disk };
+    ghost view = { λ f. record {
+      text = D.Disk.seen f.disk;
+      may_leave = D.Disk.may_leave f.disk;
+      is_at_end = IsAtEnd (D.Disk.seen f.disk) f.end;
+      is_clean = D.Disk.is_clean f.disk;
+    } };
 
     ghost leaves = { AreNoMore };
+
+    ghost clean_at_end = { λ f. f.ends_there };
 
     ghost leaves_nothing = { λ bytes. Prim.omega arith };
 
     ghost leaves_all = { λ bytes. Prim.omega arith };
 
     fn length(&mut self) -> Result<u64, FileError> {
-        match self.end {
-            Some(end) => Ok(end as u64),
-            None => Err(FileError),
+        let Some(end) = self.end else {
+            return Err(FileError);
+        };
+        if !self.disk.may_be_used() {
+            return Err(FileError);
+        }
+        match self.disk.len() {
+            Ok(length) if length == end => Ok(length as u64),
+            Ok(_) | Err(_) => Err(FileError),
         }
     }
 
@@ -109,11 +119,12 @@ impl<D: Disk> HistoryFile for DiskFile<D> {
 
     // Beside the clauses of every file: after a write that failed the end isn't known, and then nothing is written.
     fn append(&mut self, bytes: &[u8]) -> Result<(), FileError>
-        ensures written { IsTrue (D.Disk.is_clean self.old.disk) → OnOk result (D.Disk.seen self.new.disk ≡ D.Disk.seen self.old.disk ++ bytes.now) }
-        ensures part { IsTrue (D.Disk.is_clean self.old.disk)
+        ensures written { IsAtEnd (D.Disk.seen self.old.disk) self.old.end → OnOk result (D.Disk.seen self.new.disk ≡ D.Disk.seen self.old.disk ++ bytes.now) }
+        ensures part { IsAtEnd (D.Disk.seen self.old.disk) self.old.end
             → OnErr result (Grown AreNoMore bytes.now (D.Disk.seen self.old.disk) (D.Disk.seen self.new.disk)) }
-        ensures crash { IsTrue (D.Disk.is_clean self.old.disk) → Only (D.Disk.seen self.old.disk) (D.Disk.may_leave self.old.disk)
+        ensures crash { IsAtEnd (D.Disk.seen self.old.disk) self.old.end → Only (D.Disk.seen self.old.disk) (D.Disk.may_leave self.old.disk)
             → LeavesGrown AreNoMore bytes.now (D.Disk.seen self.old.disk) (D.Disk.may_leave self.new.disk) }
+        ensures at_end { IsAtEnd (D.Disk.seen self.old.disk) self.old.end → IsAtEnd (D.Disk.seen self.new.disk) self.new.end }
         ensures clean { D.Disk.is_clean self.new.disk ≡ D.Disk.is_clean self.old.disk }
         ensures unknown { end_of self.old ≡ None → IsErr result × (self.new ≡ self.old) }
         ensures end { OnErr result ((end_of self.new ≡ None) ⊎ (self.new ≡ self.old)) }
@@ -154,6 +165,7 @@ impl<D: Disk> HistoryFile for DiskFile<D> {
             → Grown AreNoMore bytes base (D.Disk.seen self.new.disk) }
         ensures crash { (base bytes : List ℕ) → length base ≡ to → LeavesGrown AreNoMore bytes base (D.Disk.may_leave self.old.disk)
             → LeavesGrown AreNoMore bytes base (D.Disk.may_leave self.new.disk) }
+        ensures at_end { IsAtEnd (D.Disk.seen self.old.disk) self.old.end → IsAtEnd (D.Disk.seen self.new.disk) self.new.end }
         ensures clean { D.Disk.is_clean self.new.disk ≡ D.Disk.is_clean self.old.disk }
         ensures known { OnOk result (end_of self.new ≡ Some to) }
         ensures end { OnErr result ((end_of self.new ≡ None) ⊎ (self.new ≡ self.old)) }

@@ -1,6 +1,6 @@
 //! Entering lines into the file of a history.
 
-ghost use Rattle.std.specs.Prelude.{◌≡◌, ◌≤◌, ◌++◌, ℕ, List, true, length, take, IfErr, IfOk, IsErr, IsTrue, OnOk, OnErr};
+ghost use Rattle.std.specs.Prelude.{◌≡◌, ◌≢◌, ◌≤◌, ◌++◌, ℕ, List, true, length, take, IfErr, IfOk, IsErr, IsTrue, OnOk, OnErr};
 ghost use Rattle.permit_journal.specs.Files.{Grown, LeavesGrown, Only};
 ghost use Rattle.permit_journal.specs.Journals.{IsSettled, Has, HasUnlessShut};
 
@@ -9,12 +9,13 @@ use std::marker::Model;
 
 /// Appends a line to the text, and syncs the file (fsync).
 fn write_out<H: HistoryFile>(file: &mut H, line: &[u8]) -> Result<(), FileError>
-    ensures written { IsTrue (H.is_clean file.old) → OnOk result (H.text file.new ≡ H.text file.old ++ line.now) }
-    ensures durable { OnOk result (Only (H.text file.new) (H.may_leave file.new)) }
-    ensures part { IsTrue (H.is_clean file.old) → OnErr result (Grown H.leaves line.now (H.text file.old) (H.text file.new)) }
-    ensures crash { IsTrue (H.is_clean file.old) → Only (H.text file.old) (H.may_leave file.old)
-        → LeavesGrown H.leaves line.now (H.text file.old) (H.may_leave file.new) }
-    ensures clean { H.is_clean file.new ≡ H.is_clean file.old }
+    ensures written { (H.view file.old).is_at_end → OnOk result ((H.view file.new).text ≡ (H.view file.old).text ++ line.now) }
+    ensures durable { OnOk result (Only (H.view file.new).text (H.view file.new).may_leave) }
+    ensures part { (H.view file.old).is_at_end → OnErr result (Grown H.leaves line.now (H.view file.old).text (H.view file.new).text) }
+    ensures crash { (H.view file.old).is_at_end → Only (H.view file.old).text (H.view file.old).may_leave
+        → LeavesGrown H.leaves line.now (H.view file.old).text (H.view file.new).may_leave }
+    ensures at_end { (H.view file.old).is_at_end → (H.view file.new).is_at_end }
+    ensures clean { (H.view file.new).is_clean ≡ (H.view file.old).is_clean }
 {
     file.append(line)?;
     file.sync()
@@ -22,11 +23,12 @@ fn write_out<H: HistoryFile>(file: &mut H, line: &[u8]) -> Result<(), FileError>
 
 /// Cuts the text, and syncs the file.
 fn cut_back<H: HistoryFile>(file: &mut H, to: u64) -> Result<(), FileError>
-    ensures cut { to ≤ length (H.text file.old) → OnOk result (H.text file.new ≡ take to (H.text file.old)) }
-    ensures durable { OnOk result (Only (H.text file.new) (H.may_leave file.new)) }
-    ensures crash { (base line : List ℕ) → length base ≡ to → LeavesGrown H.leaves line base (H.may_leave file.old)
-        → LeavesGrown H.leaves line base (H.may_leave file.new) }
-    ensures clean { H.is_clean file.new ≡ H.is_clean file.old }
+    ensures cut { to ≤ length (H.view file.old).text → OnOk result ((H.view file.new).text ≡ take to (H.view file.old).text) }
+    ensures durable { OnOk result (Only (H.view file.new).text (H.view file.new).may_leave) }
+    ensures crash { (base line : List ℕ) → length base ≡ to → LeavesGrown H.leaves line base (H.view file.old).may_leave
+        → LeavesGrown H.leaves line base (H.view file.new).may_leave }
+    ensures at_end { (H.view file.old).is_at_end → (H.view file.new).is_at_end }
+    ensures clean { (H.view file.new).is_clean ≡ (H.view file.old).is_clean }
 {
     file.cut(to)?;
     file.sync()
@@ -34,15 +36,25 @@ fn cut_back<H: HistoryFile>(file: &mut H, to: u64) -> Result<(), FileError>
 
 /// Puts the text on the disk. How many bytes it has.
 fn put_on_disk<H: HistoryFile>(file: &mut H) -> Result<u64, FileError>
-    ensures length { IfOk result (λ n. IsTrue (H.is_clean file.new) → n ≡ length (H.text file.old)) }
-    ensures durable { OnOk result (Only (H.text file.old) (H.may_leave file.new)) }
-    ensures kept { H.text file.new ≡ H.text file.old }
-    ensures crash { (c : List ℕ) → H.may_leave file.new c → H.may_leave file.old c }
-    ensures clean { IsTrue (H.is_clean file.new) → IsTrue (H.is_clean file.old) }
+    ensures length { IfOk result (λ n. IsTrue (H.view file.new).is_clean → n ≡ length (H.view file.old).text) }
+    ensures durable { OnOk result (Only (H.view file.old).text (H.view file.new).may_leave) }
+    ensures kept { (H.view file.new).text ≡ (H.view file.old).text }
+    ensures crash { (c : List ℕ) → (H.view file.new).may_leave c → (H.view file.old).may_leave c }
+    ensures clean { IsTrue (H.view file.new).is_clean → IsTrue (H.view file.old).is_clean }
 {
     let length = file.length()?;
     file.sync()?;
     Ok(length)
+}
+
+/// Whether the file says that its text has this length.
+fn says_length<H: HistoryFile>(file: &mut H, bytes: u64) -> bool
+    ensures said { result ≡ true → IsTrue (H.view file.new).is_clean → bytes ≡ length (H.view file.old).text }
+    ensures kept { (H.view file.new).text ≡ (H.view file.old).text }
+    ensures crash { (c : List ℕ) → (H.view file.new).may_leave c → (H.view file.old).may_leave c }
+    ensures at_end { (H.view file.old).is_at_end → (H.view file.new).is_at_end }
+{
+    file.length() == Ok(bytes)
 }
 
 /// The file of a history to which lines are added. Contracts see the file, the length of its text, and whether it is shut.
@@ -51,7 +63,11 @@ fn put_on_disk<H: HistoryFile>(file: &mut H) -> Result<u64, FileError>
 /// journal is shut, and stays so: what the file holds then isn't known. Who doesn't know whether a line belongs to the text
 /// shuts it too.
 ///
-/// The clauses are said of a journal that is settled: its file has returned nothing false. No code can detect whether one has.
+/// The file is watched: before a line is appended the file is asked for its length. Where it says another than the journal knows, or
+/// none, another program may have changed it: nothing is written, and the journal is shut.
+///
+/// The clauses are said of a journal that is settled: its text is on the disk, has the length that the journal knows, and is appended
+/// to at its end. So it is from the opening on, if the file had returned nothing false by then. No code can detect whether one has.
 #[derive(Drop)]
 pub struct Journal<H: HistoryFile> {
     file: H,
@@ -74,20 +90,19 @@ impl<H: HistoryFile + Drop> Journal<H> {
     /// # Examples
     ///
     /// ```
-    /// let text = "a\n".as_bytes().to_vec(alloc)?;
-    /// let Ok(journal) = Journal::open(MemoryFile::new(text)) else {
+    /// let Ok(journal) = Journal::open(file) else {
     ///     return Err(Fail::new("no journal"));
     /// };
     /// assert!(rt; journal.length() == 2 && !journal.is_shut());
     /// ```
     pub fn open(mut file: H) -> Result<Journal<H>, H>
-        ensures settled { IfOk result (λ journal. IsTrue (H.is_clean journal.file) → Has H.text H.may_leave H.is_clean journal (H.text file)) }
-        ensures kept { IfOk result (λ journal. H.text journal.file ≡ H.text file) }
-        ensures crash { IfOk result (λ journal. (c : List ℕ) → H.may_leave journal.file c → H.may_leave file c) }
-        ensures clean { IfOk result (λ journal. IsTrue (H.is_clean journal.file) → IsTrue (H.is_clean file)) }
-        ensures back { IfErr result (λ left. H.text left ≡ H.text file) }
-        ensures left { IfErr result (λ left. (c : List ℕ) → H.may_leave left c → H.may_leave file c) }
-        ensures doubt { IfErr result (λ left. IsTrue (H.is_clean left) → IsTrue (H.is_clean file)) }
+        ensures settled { IfOk result (λ journal. IsTrue (H.view journal.file).is_clean → Has H.view journal (H.view file).text) }
+        ensures kept { IfOk result (λ journal. (H.view journal.file).text ≡ (H.view file).text) }
+        ensures crash { IfOk result (λ journal. (c : List ℕ) → (H.view journal.file).may_leave c → (H.view file).may_leave c) }
+        ensures clean { IfOk result (λ journal. IsTrue (H.view journal.file).is_clean → IsTrue (H.view file).is_clean) }
+        ensures back { IfErr result (λ left. (H.view left).text ≡ (H.view file).text) }
+        ensures left { IfErr result (λ left. (c : List ℕ) → (H.view left).may_leave c → (H.view file).may_leave c) }
+        ensures doubt { IfErr result (λ left. IsTrue (H.view left).is_clean → IsTrue (H.view file).is_clean) }
     {
         match put_on_disk(&mut file) {
             Ok(length) => Ok(Journal {
@@ -115,42 +130,52 @@ impl<H: HistoryFile + Drop> Journal<H> {
 
     /// Cuts the text to the length and syncs the file, or shuts the journal.
     fn cut_off(&mut self, to: u64)
-        ensures cut { IsTrue (H.is_clean self.old.file) → (base line : List ℕ) → length base ≡ to → Grown H.leaves line base (H.text self.old.file)
-            → HasUnlessShut H.text H.may_leave H.is_clean self.new self.new.is_shut base }
-        ensures crash { (base line : List ℕ) → length base ≡ to → LeavesGrown H.leaves line base (H.may_leave self.old.file)
-            → LeavesGrown H.leaves line base (H.may_leave self.new.file) }
+        ensures cut { (H.view self.old.file).is_at_end → (base line : List ℕ) → length base ≡ to → Grown H.leaves line base (H.view self.old.file).text
+            → HasUnlessShut H.view self.new self.new.is_shut base }
+        ensures crash { (base line : List ℕ) → length base ≡ to → LeavesGrown H.leaves line base (H.view self.old.file).may_leave
+            → LeavesGrown H.leaves line base (H.view self.new.file).may_leave }
+        ensures clean { (H.view self.new.file).is_clean ≡ (H.view self.old.file).is_clean }
     {
         self.length = to;
         self.is_shut = cut_back(&mut self.file, to).is_err();
     }
 
     /// Appends a line to the text, with its LF, and syncs the file (fsync). Otherwise nothing of it is left, or the journal is shut.
+    /// It is shut too, and nothing is written, where the file doesn't say that it has the length that the journal knows.
     ///
     /// # Examples
     ///
     /// ```
     /// let entered = journal.enter(b"b\n");
     /// assert!(rt; entered.is_ok() && journal.length() == 4);
-    /// assert!(rt; journal.into_file().bytes() == b"a\nb\n".as_slice());
+    /// assert!(rt; journal.into_file().into_disk().bytes() == b"a\nb\n".as_slice());
     /// ```
     pub fn enter(&mut self, line: &[u8]) -> Result<(), FileError>
-        ensures entered { IsSettled H.text H.may_leave H.is_clean self.old
-            → OnOk result (Has H.text H.may_leave H.is_clean self.new (H.text self.old.file ++ line.now)) }
-        ensures refused { IsSettled H.text H.may_leave H.is_clean self.old
-            → OnErr result (HasUnlessShut H.text H.may_leave H.is_clean self.new self.new.is_shut (H.text self.old.file)) }
+        ensures entered { IsSettled H.view self.old
+            → OnOk result (Has H.view self.new ((H.view self.old.file).text ++ line.now)) }
+        ensures refused { IsSettled H.view self.old
+            → OnErr result (HasUnlessShut H.view self.new self.new.is_shut (H.view self.old.file).text) }
 
         // A crash leaves the text, with nothing, a part of the line or all of it after it.
-        ensures crash { IsSettled H.text H.may_leave H.is_clean self.old
-            → LeavesGrown H.leaves line.now (H.text self.old.file) (H.may_leave self.new.file) }
+        ensures crash { IsSettled H.view self.old
+            → LeavesGrown H.leaves line.now (H.view self.old.file).text (H.view self.new.file).may_leave }
         ensures shut { self.old.is_shut ≡ true → IsErr result × (self.new ≡ self.old) }
+
+        // Where the text hasn't the length that the journal knows, nothing is written.
+        ensures watched { IsTrue (H.view self.new.file).is_clean → self.old.length ≢ length (H.view self.old.file).text
+            → IsErr result × (self.new.is_shut ≡ true) × ((H.view self.new.file).text ≡ (H.view self.old.file).text) }
     {
-        let before = self.length;
-        let Some(length) = before.checked_add(line.len() as u64) else {
-            return Err(FileError);
-        };
         if self.is_shut {
             return Err(FileError);
         }
+        let before = self.length;
+        if !says_length(&mut self.file, before) {
+            self.shut();
+            return Err(FileError);
+        }
+        let Some(length) = before.checked_add(line.len() as u64) else {
+            return Err(FileError);
+        };
         if write_out(&mut self.file, line).is_err() {
             self.cut_off(before);
             return Err(FileError);
@@ -168,13 +193,13 @@ impl<H: HistoryFile + Drop> Journal<H> {
     /// let entered = journal.enter(b"b\n");
     /// journal.take_back(before);
     /// assert!(rt; entered.is_ok() && journal.length() == before);
-    /// assert!(rt; journal.into_file().bytes() == b"a\n".as_slice());
+    /// assert!(rt; journal.into_file().into_disk().bytes() == b"a\n".as_slice());
     /// ```
     pub fn take_back(&mut self, to: u64)
-        ensures back { IsSettled H.text H.may_leave H.is_clean self.old → (base line : List ℕ) → length base ≡ to → H.text self.old.file ≡ base ++ line
-            → HasUnlessShut H.text H.may_leave H.is_clean self.new self.new.is_shut base }
-        ensures crash { IsSettled H.text H.may_leave H.is_clean self.old → (base line : List ℕ) → length base ≡ to → H.text self.old.file ≡ base ++ line
-            → LeavesGrown H.leaves line base (H.may_leave self.new.file) }
+        ensures back { IsSettled H.view self.old → (base line : List ℕ) → length base ≡ to → (H.view self.old.file).text ≡ base ++ line
+            → HasUnlessShut H.view self.new self.new.is_shut base }
+        ensures crash { IsSettled H.view self.old → (base line : List ℕ) → length base ≡ to → (H.view self.old.file).text ≡ base ++ line
+            → LeavesGrown H.leaves line base (H.view self.new.file).may_leave }
         ensures shut { self.old.is_shut ≡ true → self.new ≡ self.old }
     {
         if !self.is_shut {

@@ -8,10 +8,9 @@ ghost use Rattle.permit_store.specs.Counts.{failed_after};
 ghost use Rattle.permit_store.specs.Frames.{HasOneDesk, OverTables, Reads, IsRead, IsLookUp};
 ghost use Rattle.permit_store.specs.Handing.{AreAmong, AreFound, AreHanded, Hands, found_by_any, selected_after};
 ghost use Rattle.permit_store.specs.Interests.{DeclareSame};
-ghost use Rattle.permit_mirror.specs.Asked.{IsFromMemory, IsFromKept, IsFromOne, is_whole};
+ghost use Rattle.permit_mirror.specs.Asked.{IsFromMemory};
 ghost use Rattle.permit_mirror.specs.Both.{CanBeRead, WasAsked, LeftBy, both};
 
-use crate::search::{any_asks_for_cell, asks_for_cell};
 use permit_base::route::Route;
 use permit_base::values::{Day, Digest, FileId, Lot, PaperNumber, ParcelId, PartyId};
 use permit_base::words::Role;
@@ -21,17 +20,12 @@ use permit_store::memory::Memory;
 use permit_store::rows::{Change, Desk, FileRow, Found, Interest, Paper, Parcel, Party};
 use permit_store::store::{Got, Store};
 
-/// Tables that a store keeps, and that are in memory beside it.
+/// Tables that a store keeps, and that are in memory beside it. Memory answers each read. A commit is made by both: memory
+/// asks for what the change needs, the store that keeps the tables makes it, then memory makes it.
 ///
-/// | Call | Answered by |
-/// |---|---|
-/// | a read of one row or one file's papers, `select`, `each` and `each_of_any` of selections of every file or by relations | memory |
-/// | `each` of the files of a whole cell, `each_of_any` with such a selection | the store that keeps the tables: its indexes find the rows, where memory would go over all files |
-/// | `commit` | both: memory asks for what the change needs, the store that keeps the tables makes it, then memory makes it |
-///
-/// A failed call of the store that keeps the tables may have shut it with the change on the disk. So memory answers
-/// nothing until that store has answered once more: a call that memory would answer asks it for its desk first, and fails
-/// where that fails. Each read says by its clause `asked` which of the two it asks.
+/// A failed commit may have shut the store that keeps the tables with the change on the disk. So memory answers nothing
+/// until that store has answered once more: a read asks it for its desk first, and fails where that fails. Each read says
+/// by its clause `asked` that it asks no more of it.
 ///
 /// # Examples
 ///
@@ -43,7 +37,7 @@ use permit_store::store::{Got, Store};
 pub struct Mirrored<S: Store, M: Memory> {
     kept: S,
     memory: M,
-    /// Whether the store that keeps the tables has answered nothing since it was given here, or since a call of it failed.
+    /// Whether the store that keeps the tables has answered nothing since it was given here, or since a commit of it failed.
     is_wary: bool,
     failed: u64,
     commits: u64,
@@ -107,7 +101,7 @@ impl<S: Store, M: Memory + Drop> Mirrored<S, M> {
     }
 
     /// Makes sure that the store that keeps the tables can be read, so that memory may answer. Where that store has answered
-    /// nothing since it was given here, or since a call of it failed, it is asked for its desk.
+    /// nothing since it was given here, or since a commit of it failed, it is asked for its desk.
     fn settle(&mut self) -> Got<()>
         ensures read { IsRead (both (S.view self.old.kept) (M.view self.old.memory) self.old.failed self.old.commits)
             (both (S.view self.new.kept) (M.view self.new.memory) self.new.failed self.new.commits) result }
@@ -314,15 +308,8 @@ impl<S: Store, M: Memory + Drop> Store for Mirrored<S, M> {
         ensures handed { (given : List TheFound) × Hands T.took given (seen self.old) (seen self.new) taker.old taker.new result
             × OverTables (seen self.old) (seen self.new) (λ t. AreHanded t result given (found_by route.now caller day t)) }
         ensures crash { (t : Tables) → LeftBy S.crash self.old.kept self.new.kept t (λ _. ⊥) }
-        ensures asked { IsFromOne (is_whole route.now)
-            (IsFromMemory self.old.is_wary self.new.is_wary self.old.kept self.new.kept result)
-            (IsFromKept self.new.is_wary self.old.memory self.new.memory result) }
+        ensures asked { IsFromMemory self.old.is_wary self.new.is_wary self.old.kept self.new.kept result }
     {
-        if asks_for_cell(*route) {
-            let answer = self.kept.each(route, caller, day, taker);
-            self.is_wary = answer.is_err();
-            return self.counted(answer);
-        }
         self.settle()?;
         let answer = self.memory.each(route, caller, day, taker);
         self.counted(answer)
@@ -338,15 +325,8 @@ impl<S: Store, M: Memory + Drop> Store for Mirrored<S, M> {
         ensures handed { (given : List TheFound) × Hands T.took given (seen self.old) (seen self.new) taker.old taker.new result
             × OverTables (seen self.old) (seen self.new) (λ t. AreAmong result given (found_by_any routes.now caller day t)) }
         ensures crash { (t : Tables) → LeftBy S.crash self.old.kept self.new.kept t (λ _. ⊥) }
-        ensures asked { IsFromOne (list_any is_whole routes.now)
-            (IsFromMemory self.old.is_wary self.new.is_wary self.old.kept self.new.kept result)
-            (IsFromKept self.new.is_wary self.old.memory self.new.memory result) }
+        ensures asked { IsFromMemory self.old.is_wary self.new.is_wary self.old.kept self.new.kept result }
     {
-        if any_asks_for_cell(routes) {
-            let answer = self.kept.each_of_any(routes, caller, day, taker);
-            self.is_wary = answer.is_err();
-            return self.counted(answer);
-        }
         self.settle()?;
         let answer = self.memory.each_of_any(routes, caller, day, taker);
         self.counted(answer)

@@ -1,9 +1,8 @@
 //! The rows that selections find among the files of some numbers.
 
 ghost use Rattle.std.specs.Prelude.{◌≡◌, ◌<◌, ◌^◌, IfOk, option_to_list};
-ghost use Rattle.std.specs.List.{list_all, list_any};
+ghost use Rattle.std.specs.List.{list_all};
 ghost use Rattle.permit_model.specs.Tables.{Tables};
-ghost use Rattle.permit_mirror.specs.Asked.{is_whole};
 ghost use Rattle.permit_mirror.specs.Search.{HandsOut, found_at, found_one, is_by_relation};
 
 use permit_base::route::{By, Route};
@@ -13,26 +12,6 @@ use permit_store::memory::Memory;
 use permit_store::routes::any_finds;
 use permit_store::rows::Found;
 use permit_store::store::{Got, Store, StoreError};
-
-/// Whether the selection asks for the files of a whole cell.
-pub(crate) fn asks_for_cell(route: Route) -> bool
-    ensures { result ≡ is_whole route }
-{
-    match route {
-        Route::Every => false,
-        Route::Cell { by, .. } => match by {
-            By::Whole => true,
-            By::One(_) | By::Two(_, _) => false,
-        },
-    }
-}
-
-/// Whether any of the selections asks for the files of a whole cell.
-pub(crate) fn any_asks_for_cell(routes: &[Route]) -> bool
-    ensures { result ≡ list_any is_whole routes.now }
-{
-    routes.iter().any(|route| asks_for_cell(*route))
-}
 
 /// Whether the selection asks for files to which the caller has a relation.
 fn is_by_relation(route: Route) -> bool

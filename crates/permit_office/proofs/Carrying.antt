@@ -17,8 +17,9 @@ use Rattle.permit_office.specs.declared.decision.Decision.TheVariants as decisio
 use Rattle.permit_office.specs.declared.reply.Reply.{Reply as Given}
 use Rattle.permit_office.specs.declared.reply.Reply.TheVariants as given
 use Rattle.permit_office.specs.Answers.{IsOwn, commits_after}
-use Rattle.permit_office.specs.Decisions.{Decides, IsCarriedOut, IsDeciding, IsOf, IsProper, IsStill, IsUndone, reply_for}
+use Rattle.permit_office.specs.Decisions.{Decides, IsCarriedOut, IsDeciding, IsOf, IsProper, IsUndone, reply_for}
 use Rattle.permit_office.specs.Frames.{IsAttempt, UnlessDone}
+use Rattle.permit_office.specs.Logs.{IsStill}
 use Rattle.permit_office.specs.Opening.{Opens}
 use Rattle.permit_office.specs.Reach.{Reach, NoRow, OneRow, ManyRows, FailedIn, HandedIn}
 
@@ -60,7 +61,7 @@ none_committed (given.Refused why) n none = refl
 
 -- ---- the counts
 
-failed_done : (r : Reach) (number : Option ℕ) (old mid : ℕ) → FailedIn r (Ok (given.Done number)) old mid → mid ≡ old
+pub failed_done : (r : Reach) (number : Option ℕ) (old mid : ℕ) → FailedIn r (Ok (given.Done number)) old mid → mid ≡ old
 failed_done NoRow number old mid e = e
 failed_done OneRow number old mid e = e
 failed_done ManyRows number old mid e = e

@@ -6,7 +6,6 @@ use Rattle.std.specs.List.{flat_map, list_any, list_all, AllByRecursion}
 use Rattle.std.proofs.lemmas.List.Elements.{filter_agree}
 use Rattle.permit_base.specs.declared.request.Filter.{Filter}
 use Rattle.permit_base.specs.declared.route.By.{By}
-use Rattle.permit_base.specs.declared.route.By.TheVariants as by
 use Rattle.permit_base.specs.declared.route.Route.{Route}
 use Rattle.permit_base.specs.declared.route.Route.TheVariants as route
 use Rattle.permit_model.specs.Days.{timing_on}
@@ -17,7 +16,7 @@ use Rattle.permit_model.specs.SoundState.{is_stored}
 use Rattle.permit_model.specs.Tables.{Tables}
 use Rattle.permit_model.proofs.FoundFiles.{left_of, right_of, marks, fits, kept_cell_once}
 use Rattle.permit_model.proofs.Selecting.{bit, how_many-cons, how_many-append, how_many-map, how_many-filter, some_counted, everywhere, same_selected}
-use Rattle.permit_policy.specs.Selections.{alone, relation_bys, is_opened, selection, has_routes, selections_by_cells, selections_of}
+use Rattle.permit_policy.specs.Selections.{all_bys, is_opened, selection, has_routes, selections_by_cells, selections_of}
 use Rattle.permit_policy.proofs.SameRoutes.{selected, same_counts}
 use Rattle.permit_store.specs.Handing.{is_found_by_any, found_by_any}
 
@@ -64,10 +63,6 @@ grouped p (g ∷ groups) few = omega (
   grouped p groups few.1,
 )
 
-all_both : {A : Type 0} (P : A → Type 0) (xs ys : List A) → AllByRecursion P xs → AllByRecursion P ys → AllByRecursion P (xs ++ ys)
-all_both P [] ys p q = q
-all_both P (x ∷ xs) ys p q = (p.0, all_both P xs ys p.1 q)
-
 -- ---- one row
 
 module _ (caller day : ℕ) (x : Found) where
@@ -96,10 +91,6 @@ module _ (caller day : ℕ) (x : Found) where
       (λ cell h. left_of (marked cell) (is_by asked (relations_found caller x)) (right_of (opened cell) (by cell) h)) kept_cells in
       omega (arith, mapped, kept, few, marked_once)
 
-  few_alone : (routes : List Route) → AllByRecursion (λ g. how_many finds g ≤ 1) (map alone routes)
-  few_alone [] = tt
-  few_alone (r ∷ routes) = (omega (arith, how_many-cons finds r [], bit_most (finds r)), few_alone routes)
-
   few_each : (allowed : Allowed) (wanted : Filter) (bys : List By) → AllByRecursion (λ g. how_many finds g ≤ 1) (map (selection allowed wanted) bys)
   few_each allowed wanted [] = tt
   few_each allowed wanted (asked ∷ bys) = (once_in allowed wanted asked, few_each allowed wanted bys)
@@ -108,9 +99,7 @@ module _ (caller day : ℕ) (x : Found) where
       AllByRecursion (λ g. how_many finds g ≤ 1) (if b then (route.Every ∷ []) ∷ [] else selections_by_cells allowed wanted)
   few_all allowed wanted true = (omega arith, tt)
   few_all allowed wanted false =
-      all_both (λ g. how_many finds g ≤ 1) (map alone (selection allowed wanted by.Whole)) (selected (selection allowed wanted) relation_bys)
-      (few_alone (selection allowed wanted by.Whole))
-      (few_each allowed wanted (filter (λ asked. has_routes (selection allowed wanted asked)) relation_bys))
+      few_each allowed wanted (filter (λ asked. has_routes (selection allowed wanted asked)) all_bys)
 
   pub same_finders : (allowed : Allowed) (wanted : Filter) →
       how_many (λ g. is_found_by_any g caller day x) (selections_of allowed wanted) ≡ how_many finds (routes_of allowed wanted)
@@ -153,10 +142,6 @@ single ((r ∷ s) ∷ gs) all e =
       ap (λ t. (r ∷ t) ∷ gs) (empty s (omega (arith, first, both, e))) ∙ ap (λ hs. (r ∷ []) ∷ hs) (none_left gs all.1 (omega (arith, first, both, e))),
     )
 
-full_alone : (routes : List Route) → AllByRecursion IsFull (map alone routes)
-full_alone [] = tt
-full_alone (r ∷ routes) = (refl, full_alone routes)
-
 full_by : (each : By → List Route) (asked : By) (bys : List By) (b : Bool) → has_routes (each asked) ≡ b → AllByRecursion IsFull (map each bys) →
     AllByRecursion IsFull (map each (cond b (asked ∷ bys) bys))
 full_by each asked bys true e all = (e, all)
@@ -170,9 +155,7 @@ full_selected each (asked ∷ bys) =
 full_all : (allowed : Allowed) (wanted : Filter) (b : Bool) →
     AllByRecursion IsFull (if b then (route.Every ∷ []) ∷ [] else selections_by_cells allowed wanted)
 full_all allowed wanted true = (refl, tt)
-full_all allowed wanted false =
-    all_both IsFull (map alone (selection allowed wanted by.Whole)) (selected (selection allowed wanted) relation_bys)
-    (full_alone (selection allowed wanted by.Whole)) (full_selected (selection allowed wanted) relation_bys)
+full_all allowed wanted false = full_selected (selection allowed wanted) all_bys
 
 all_counted : {A : Type 0} (xs : List A) → how_many (λ x. true) xs ≡ length xs
 all_counted [] = refl

@@ -19,12 +19,14 @@ use Rattle.permit_store.specs.Frames.{StoreView, HasOneDesk}
 use Rattle.permit_office.specs.declared.reply.Reply.{Reply as Given}
 use Rattle.permit_office.specs.declared.reply.Reply.TheVariants as given
 use Rattle.permit_office.specs.declared.decision.Decision.{Decision}
+use Rattle.permit_office.specs.declared.log.Log.{Ghosts}
 use Rattle.permit_office.specs.Decisions.{reply_for}
 use Rattle.permit_office.specs.Office.{OfficeView}
 use Rattle.permit_office.specs.Answers.{CommittedBy, commits_after, IsOwn, failed_by, is_store_refusal}
 use Rattle.permit_office.specs.Reach.{Reach, NoRow, OneRow, ManyRows, reach_of, is_many, HandedBy, HandedIn, FailedBy, FailedIn}
 use Rattle.permit_office.specs.Opening.{opened_for, rows_opened, Opens}
 use Rattle.permit_office.specs.Frames.{IsAttempt, IsStep, Steps, UnlessDone}
+use Rattle.permit_office.specs.Logged.{FailedWith, Logged}
 use Rattle.permit_office.specs.Sound.{KeepsSound, IsSoundChange, MakesOne}
 use Rattle.permit_model.proofs.Histories.{found_by_number}
 
@@ -73,7 +75,7 @@ counts_by false old new e own = e
 own_counts : (reply : Given) (old new : ℕ) → new ≡ old → IsOwn reply → new ≡ failed_by reply old
 own_counts reply old new e own = counts_by (is_store_refusal reply) old new e own
 
-clash : (b : Bool) → b ≡ true → not b ≡ true → ⊥
+pub clash : (b : Bool) → b ≡ true → not b ≡ true → ⊥
 clash true e f = cc
 clash false e f = cc
 
@@ -126,14 +128,34 @@ opened_known policy h digest asked day caller found result mid old new same open
     subst (λ n. IfOk result (λ d. Opens (rows_opened policy h digest asked day) (reply_for d) n new)) same
     (subst (λ rows. IfOk result (λ d. Opens rows (reply_for d) mid new)) (ap (option_and_then (λ (p : Party). opened_for policy h day p asked)) found) opened)
 
+-- without a log these are the counts
+failed_with : {S L : Type 0} (view : S → StoreView) (log : Ghosts L) (digest : List ℕ) (asked : Request) (day : ℕ) (old new : OfficeView S L) (reply : Given) →
+    FailedBy (reach_of asked) reply (view old.store).failed (view new.store).failed → FailedWith view log digest asked day old new reply
+failed_with view log digest asked day old new (given.Refused refusal.Store) e = inl e
+failed_with view log digest asked day old new (given.Refused refusal.Syntax) e = e
+failed_with view log digest asked day old new (given.Refused refusal.Caller) e = e
+failed_with view log digest asked day old new (given.Refused refusal.Clock) e = e
+failed_with view log digest asked day old new (given.Refused refusal.Record) e = e
+failed_with view log digest asked day old new (given.Refused (refusal.Denied name)) e = e
+failed_with view log digest asked day old new (given.Refused (refusal.NotAdmitted why)) e = e
+failed_with view log digest asked day old new (given.Done number) e = e
+failed_with view log digest asked day old new (given.Parcel p) e = e
+failed_with view log digest asked day old new (given.File f ps) e = e
+failed_with view log digest asked day old new (given.Listed l) e = e
+failed_with view log digest asked day old new (given.Register k l) e = e
+
+-- a log that takes commands isn't one that takes none
+pub opposite : (b : Bool) → b ≡ true → b ≡ false → ⊥
+opposite b is other = let clashes : true ≡ false = sym is ∙ other in cc
+
 -- an attempt that gives a reply of the office's own is a step
-pub stepped_ok : {S : Type 0} (view : S → StoreView) (digest : List ℕ) (asked : Request) (day : ℕ) (old new : OfficeView S) (reply : Given) →
-    new.policy ≡ old.policy →
+pub stepped_ok : {S L : Type 0} (view : S → StoreView) (log : Ghosts L) (digest : List ℕ) (asked : Request) (day : ℕ) (old new : OfficeView S L)
+    (reply : Given) → new.policy ≡ old.policy → log.is_open old.log ≡ true →
     IsAttempt (reach_of asked) (view old.store) (view new.store) (Ok reply) → ((view new.store).doubt ≡ 0 → HasOneDesk (view new.store)) → IsOwn reply →
     ((view new.store).doubt ≡ 0 → (h : History) → IsHistory h → (view old.store).holds (tables h) →
     Opens (rows_opened old.policy h digest asked day) reply (view old.store).handed (view new.store).handed) →
-    MakesOne (view old.store) (view new.store) day reply → IsStep view digest asked day old new reply
-stepped_ok view digest asked day old new reply same attempt one own opened made =
+    MakesOne (view old.store) (view new.store) day reply → Logged view log digest asked day old new reply → IsStep view log digest asked day old new reply
+stepped_ok view log digest asked day old new reply same ready attempt one own opened made logged =
     let none : (view new.store).failed ≡ (view old.store).failed = none_failed (reach_of asked) reply _ _ attempt.failed in
     record {
       policy = same;
@@ -142,27 +164,34 @@ stepped_ok view digest asked day old new reply same attempt one own opened made 
       one = λ sure _. one sure;
       doubt = attempt.doubt;
       failed = λ _. (λ refused. absurd (clash (is_store_refusal reply) refused own), λ differs. absurd (differs none));
-      failures = failed_ok (reach_of asked) reply _ _ own none;
+      failures = failed_with view log digest asked day old new reply (failed_ok (reach_of asked) reply _ _ own none);
       commits = committed_by reply _ _ attempt.commits;
       handed = handed_ok (reach_of asked) reply _ _ attempt.handed;
       opened = opened;
+      logged = logged;
+      shut = λ closed. absurd (opposite (log.is_open old.log) ready closed);
     }
 
 -- an attempt that failed is a step with the store's refusal
-pub stepped_err : {S : Type 0} (view : S → StoreView) (digest : List ℕ) (asked : Request) (day : ℕ) (old new : OfficeView S) (e : StoreError) →
-    new.policy ≡ old.policy →
-    IsAttempt (reach_of asked) (view old.store) (view new.store) (Err e) → IsStep view digest asked day old new (given.Refused refusal.Store)
-stepped_err view digest asked day old new e same attempt = record {
+pub stepped_err : {S L : Type 0} (view : S → StoreView) (log : Ghosts L) (digest : List ℕ) (asked : Request) (day : ℕ) (old new : OfficeView S L)
+    (e : StoreError) → new.policy ≡ old.policy → log.is_open old.log ≡ true → new.log ≡ old.log →
+    IsAttempt (reach_of asked) (view old.store) (view new.store) (Err e) → IsStep view log digest asked day old new (given.Refused refusal.Store)
+stepped_err view log digest asked day old new e same ready unlogged attempt = record {
   policy = same;
   kept = attempt.kept;
   made = λ sure t held sound. tt;
   one = λ sure own. absurd (clash true refl own);
   doubt = attempt.doubt;
-  failed = λ few. (λ refused same. next_differs (view old.store).failed (sym (one_failed (reach_of asked) e _ _ few attempt.failed) ∙ same), λ differs. refl);
-  failures = failed_err (reach_of asked) e _ _ attempt.failed;
+  failed = λ few. (
+    λ refused. inl (λ same. next_differs (view old.store).failed (sym (one_failed (reach_of asked) e _ _ few attempt.failed) ∙ same)),
+    λ differs. refl,
+  );
+  failures = inl (failed_err (reach_of asked) e _ _ attempt.failed);
   commits = attempt.commits;
   handed = handed_err (reach_of asked) e _ _ attempt.handed;
   opened = λ sure h is held. opens_refused (rows_opened old.policy h digest asked day) refusal.Store _ _;
+  logged = inl unlogged;
+  shut = λ closed. absurd (opposite (log.is_open old.log) ready closed);
 }
 
 -- ---- sound tables
@@ -178,9 +207,9 @@ keeps_by old new day (given.Register k l) kept made = λ sure t held sound. (t, 
 keeps_by old new day (given.Refused why) kept made = λ sure t held sound. (t, kept t held, sound)
 
 -- a step keeps sound tables sound
-pub keeps_step : {S : Type 0} (view : S → StoreView) (digest : List ℕ) (asked : Request) (day : ℕ) (old new : OfficeView S) (reply : Given) →
-    IsStep view digest asked day old new reply → KeepsSound (view old.store) (view new.store)
-keeps_step view digest asked day old new reply step = keeps_by (view old.store) (view new.store) day reply step.kept step.made
+pub keeps_step : {S L : Type 0} (view : S → StoreView) (log : Ghosts L) (digest : List ℕ) (asked : Request) (day : ℕ) (old new : OfficeView S L)
+    (reply : Given) → IsStep view log digest asked day old new reply → KeepsSound (view old.store) (view new.store)
+keeps_step view log digest asked day old new reply step = keeps_by (view old.store) (view new.store) day reply step.kept step.made
 
 pub keeps_none : (s : StoreView) → KeepsSound s s
 keeps_none s = λ sure t held sound. (t, held, sound)
@@ -194,17 +223,17 @@ keeps_more old between new doubt first last = λ sure t held sound.
 -- ---- a run
 
 -- one step more
-pub steps_last : {S : Type 0} (view : S → StoreView) (requests : List (Asked × ℕ)) (replies : List Given) (request : Asked × ℕ) (reply : Given)
-    (old between new : OfficeView S) → Steps view requests replies old between →
-    IsStep view (digest_of request.0.token) request.0.request request.1 between new reply →
-    Steps view (requests ++ request ∷ []) (replies ++ reply ∷ []) old new
-steps_last view [] [] request reply old between new ran step = (
+pub steps_last : {S L : Type 0} (view : S → StoreView) (log : Ghosts L) (requests : List (Asked × ℕ)) (replies : List Given) (request : Asked × ℕ) (reply : Given)
+    (old between new : OfficeView S L) → Steps view log requests replies old between →
+    IsStep view log (digest_of request.0.token) request.0.request request.1 between new reply →
+    Steps view log (requests ++ request ∷ []) (replies ++ reply ∷ []) old new
+steps_last view log [] [] request reply old between new ran step = (
   new,
   subst
-      (λ o. IsStep view (digest_of request.0.token) request.0.request request.1 o new reply) ran step,
+      (λ o. IsStep view log (digest_of request.0.token) request.0.request request.1 o new reply) ran step,
   refl,
 )
-steps_last view [] (r ∷ replies) request reply old between new ran step = absurd ran
-steps_last view (q ∷ requests) [] request reply old between new ran step = absurd ran
-steps_last view (q ∷ requests) (r ∷ replies) request reply old between new ran step =
-    (ran.0, ran.1, steps_last view requests replies request reply ran.0 between new ran.2 step)
+steps_last view log [] (r ∷ replies) request reply old between new ran step = absurd ran
+steps_last view log (q ∷ requests) [] request reply old between new ran step = absurd ran
+steps_last view log (q ∷ requests) (r ∷ replies) request reply old between new ran step =
+    (ran.0, ran.1, steps_last view log requests replies request reply ran.0 between new ran.2 step)

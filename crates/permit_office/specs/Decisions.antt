@@ -12,6 +12,7 @@ use Rattle.permit_office.specs.declared.decision.Decision.TheVariants as decisio
 use Rattle.permit_office.specs.declared.reply.Reply.{Reply as Given}
 use Rattle.permit_office.specs.declared.reply.Reply.TheVariants as given
 use Rattle.permit_office.specs.Answers.{reply_of, IsOwn}
+use Rattle.permit_office.specs.Logs.{IsStill}
 use Rattle.permit_office.specs.Reach.{Reach, FailedIn, HandedIn}
 use Rattle.permit_office.specs.Sound.{MayAct}
 
@@ -62,15 +63,6 @@ pub record IsDeciding (reach : Reach) (old new : StoreView) (result : Result Giv
 -- what a decision of the caller on the day leaves of sound tables
 abbrev pub DecidesBy : StoreView → StoreView → ℕ → ℕ → Result Decision StoreError → Type 0
 DecidesBy old new caller day result = OverTables old new (λ t. IsSoundTables t → MayAct t caller day → IfOk result (LeavesSound day t))
-
--- nothing was called
-pub record IsStill (old new : StoreView) : Type 0 where
-  pub kept : (t : Tables) → old.holds t → new.holds t
-  pub one : HasOneDesk old → HasOneDesk new
-  pub doubt : new.doubt ≡ old.doubt
-  pub failed : new.failed ≡ old.failed
-  pub commits : new.commits ≡ old.commits
-  pub handed : new.handed ≡ old.handed
 
 -- a reply is given and nothing is called; a change is made by one commit, and then the reply is that it is done
 abbrev pub IsCarriedOut : Decision → StoreView → StoreView → Result Given StoreError → Type 0

@@ -10,16 +10,20 @@ ghost use Rattle.permit_store.specs.Frames.{HasOneDesk, OverHistory, OverTables}
 ghost use Rattle.permit_office.specs.Callers.{number_of};
 ghost use Rattle.permit_office.specs.Answers.{Attempts, IsOwn};
 ghost use Rattle.permit_office.specs.Decisions.{replies, reply_for, Decides, IsDeciding, IsOf, IsProper, LeavesSound};
-ghost use Rattle.permit_office.specs.Frames.{IsAttempt};
+ghost use Rattle.permit_office.specs.Frames.{IsStep};
+ghost use Rattle.permit_office.specs.Logged.{replied};
+ghost use Rattle.permit_office.specs.Office.{office_of};
 ghost use Rattle.permit_office.specs.Opening.{opened_for, rows_opened, Opens};
 ghost use Rattle.permit_office.specs.Reach.{reach_of};
-ghost use Rattle.permit_office.specs.Sound.{IsSoundChange, MayAct, OnMade};
+ghost use Rattle.permit_office.specs.Sound.{MayAct};
 
 use crate::callers::known_caller;
 use crate::commands::on_file;
-use crate::decision::{Decision, carry_out, refused};
+use crate::decision::{Decision, refused};
+use crate::entering::enter_and_carry_out;
 use crate::filing::file;
 use crate::listing::{list_files, show_register};
+use crate::log::Log;
 use crate::parcels::{add_parcel, declare, transfer};
 use crate::parties::add_party;
 use crate::reading::{read_file, read_parcel};
@@ -28,7 +32,7 @@ use permit_base::request::Request;
 use permit_base::values::{Day, Digest};
 use permit_policy::Policy;
 use permit_store::rows::{Desk, Party};
-use permit_store::store::{Got, Store};
+use permit_store::store::{Got, Store, StoreError};
 
 /// What the request of a known caller comes to, on a day that isn't below the last. Nothing is changed. It fails where a call of
 /// the store failed, or where memory was refused to a listing.
@@ -113,10 +117,12 @@ pub fn decide<'a, S: Store>(
     }
 }
 
-/// Serves a request of the party that keeps the digest, on the day, by the policy: what `decide` returns is carried out. It fails
-/// where a call of the store failed, or where memory was refused to a listing; then nothing has changed.
-pub fn attempt<S: Store>(
+/// Serves a request of the party that keeps the digest, on the day, by the policy: what `decide` returns is carried out, and a
+/// change that is admitted is entered into the log before. It fails where a call of the store or of the log failed, where the log
+/// takes no commands, or where memory was refused to a listing; then the tables are as they were.
+pub fn attempt<S: Store, L: Log>(
     store: &mut S,
+    log: &mut L,
     policy: &Policy,
     digest: &Digest,
     request: &Request,
@@ -124,15 +130,15 @@ pub fn attempt<S: Store>(
 ) -> Got<Reply>
     ensures model { OverHistory (S.view store.old) (S.view store.new) (λ h.
         Attempts (S.view store.new).holds result (step_as policy.now h digest.now request.now day) h) }
-    ensures opened { OverHistory (S.view store.old) (S.view store.new) (λ h.
-        IfOk result (λ reply. Opens (rows_opened policy.now h digest.now request.now day) reply (S.view store.old).handed (S.view store.new).handed)) }
-    ensures sound { OverTables (S.view store.old) (S.view store.new) (λ t. IsSoundTables t → OnMade result (IsSoundChange (S.view store.new).holds day t)) }
-    ensures attempt { IsAttempt (reach_of request.now) (S.view store.old) (S.view store.new) result }
-    ensures one { (S.view store.new).doubt ≡ 0 → OnOk result (HasOneDesk (S.view store.new)) }
+    ensures step { IsStep S.view L.Log digest.now request.now day (office_of store.old policy.now log.old) (office_of store.new policy.now log.new)
+        (replied result) }
     ensures own { IfOk result IsOwn }
 {
+    if !log.is_open() {
+        return Err(StoreError);
+    }
     match decide(store, policy, digest, request, day) {
-        Ok(decision) => carry_out(store, decision, day),
+        Ok(decision) => enter_and_carry_out(store, log, decision, request, day),
         Err(error) => Err(error),
     }
 }

@@ -1,17 +1,15 @@
 -- A listing's selections have the routes of the listing, in another order: as many of both pass any test.
-use Rattle.std.proofs.Common.{◌≡◌, refl, ap, sym, ◌∙◌, Bool, true, false, if◌then◌else◌, ◌&&◌, ℕ, ◌+◌, List, [], ◌∷◌, ◌++◌, map, filter, arith}
+use Rattle.std.proofs.Common.{◌≡◌, refl, ap, sym, ◌∙◌, Bool, true, false, if◌then◌else◌, ◌&&◌, ℕ, ◌+◌, List, [], ◌∷◌, map, filter, arith}
 use Rattle.std.specs.List.{flat_map, list_all}
-use Rattle.std.proofs.lemmas.Grind.{flat_map-append}
 use Rattle.permit_base.specs.declared.request.Filter.{Filter}
 use Rattle.permit_base.specs.declared.route.By.{By}
-use Rattle.permit_base.specs.declared.route.By.TheVariants as by
 use Rattle.permit_base.specs.declared.route.Route.{Route}
 use Rattle.permit_base.specs.declared.route.Route.TheVariants as route
 use Rattle.permit_model.specs.Opened.{Cell, Allowed}
 use Rattle.permit_model.specs.Routes.{kept_cells, cell_on_day, cell_meets, route_by, routes_in, routes_of, is_open_to_all, is_all}
 use Rattle.permit_model.specs.Search.{how_many}
 use Rattle.permit_model.proofs.Selecting.{bit, how_many-cons, how_many-map, how_many-append, how_many-filter, filter_twice, filter_mapped}
-use Rattle.permit_policy.specs.Selections.{alone, all_bys, relation_bys, opens, is_opened, selection, has_routes, selections_of}
+use Rattle.permit_policy.specs.Selections.{all_bys, opens, is_opened, selection, has_routes, selections_of}
 use Rattle.permit_policy.proofs.CellRoutes.{cell_routes}
 
 -- ---- sums
@@ -70,10 +68,6 @@ selected_total : (f : Route → Bool) (each : By → List Route) (bys : List By)
     how_many f (flat_map (λ rs. rs) (selected each bys)) ≡ total (λ asked. how_many f (each asked)) bys
 selected_total f each bys = ap (λ ss. how_many f (flat_map (λ rs. rs) ss)) (sym (filter_mapped each has_routes bys)) ∙ kept_total f each bys
 
-joined_alone : (routes : List Route) → flat_map (λ rs. rs) (map alone routes) ≡ routes
-joined_alone [] = refl
-joined_alone (r ∷ routes) = ap (λ rs. r ∷ rs) (joined_alone routes)
-
 module _ (f : Route → Bool) (allowed : Allowed) (wanted : Filter) where
   -- whether the route is there and passes
   abbrev counts : Cell → By → Bool
@@ -94,28 +88,16 @@ module _ (f : Route → Bool) (allowed : Allowed) (wanted : Filter) where
       ∙ ap (how_many (λ cell. f (route_by cell asked))) (sym (filter_twice (cell_meets wanted) opened kept_cells))
       ∙ how_many-filter opened (λ cell. f (route_by cell asked)) met
 
-  -- each whole cell by itself, and the selections by relations
-  abbrev apart : List (List Route)
-  apart = map alone (selection allowed wanted by.Whole) ++ selected (selection allowed wanted) relation_bys
-
-  apart_total : how_many f (flat_map (λ rs. rs) apart) ≡ total (λ asked. how_many f (selection allowed wanted asked)) all_bys
-  apart_total =
-      let whole : List Route = selection allowed wanted by.Whole in
-      let others : List (List Route) = selected (selection allowed wanted) relation_bys in
-      ap (how_many f) (flat_map-append (λ rs. rs) (map alone whole) others ∙ ap (λ rs. rs ++ flat_map (λ rs. rs) others) (joined_alone whole))
-      ∙ how_many-append f whole (flat_map (λ rs. rs) others)
-      ∙ ap (λ n. how_many f whole + n) (selected_total f (selection allowed wanted) relation_bys)
-
-  in_cells : how_many f (flat_map (λ rs. rs) apart) ≡ how_many f (flat_map (routes_in allowed) (filter (cell_meets wanted) kept_cells))
+  in_cells : how_many f (flat_map (λ rs. rs) (selected (selection allowed wanted) all_bys)) ≡ how_many f (flat_map (routes_in allowed) (filter (cell_meets wanted) kept_cells))
   in_cells =
       let met : List Cell = filter (cell_meets wanted) kept_cells in
-      apart_total
+      selected_total f (selection allowed wanted) all_bys
       ∙ total_same (λ asked. how_many f (selection allowed wanted asked)) (λ asked. how_many (λ cell. counts cell asked) met) by_way all_bys
       ∙ sym (swapped counts met all_bys)
       ∙ total_same (λ cell. how_many (counts cell) all_bys) (λ cell. how_many f (routes_in allowed cell)) (λ cell. sym (by_cell cell)) met
       ∙ sym (flat_total f (routes_in allowed) met)
 
-  by_openness : (b : Bool) → how_many f (flat_map (λ rs. rs) (if b then (route.Every ∷ []) ∷ [] else apart))
+  by_openness : (b : Bool) → how_many f (flat_map (λ rs. rs) (if b then (route.Every ∷ []) ∷ [] else selected (selection allowed wanted) all_bys))
       ≡ how_many f (if b then route.Every ∷ [] else flat_map (routes_in allowed) (filter (cell_meets wanted) kept_cells))
   by_openness true = refl
   by_openness false = in_cells

@@ -17,13 +17,9 @@ use Rattle.permit_model.specs.Routes.{kept_cells, cell_on_day, cell_meets, route
 abbrev pub items_of : Vec Route Global → List Route
 items_of routes = routes.items
 
--- the 21 relations and pairs of relations that may be asked of the caller
-abbrev pub relation_bys : List By
-relation_bys = map by.One all_relations ++ map (λ (pair : Pair). by.Two pair.0 pair.1) all_pairs
-
--- what may be asked of the caller: nothing, one relation, two relations
+-- what may be asked of the caller, in 22 ways: nothing, one relation, two relations
 abbrev pub all_bys : List By
-all_bys = by.Whole ∷ relation_bys
+all_bys = by.Whole ∷ (map by.One all_relations ++ map (λ (pair : Pair). by.Two pair.0 pair.1) all_pairs)
 
 -- whether a cell is opened so: whole where no relation is wanted, else by a relation that is allowed alone, or by two that are
 -- allowed as two
@@ -45,16 +41,9 @@ abbrev pub has_routes : List Route → Bool
 has_routes [] = false
 has_routes (r ∷ rs) = true
 
--- a route by itself
-abbrev pub alone : Route → List Route
-alone r = r ∷ []
-
--- each whole cell by itself, and then one selection for each relation or pair that is asked of the caller, with the cells that
--- it opens
+-- one selection for each thing that is asked of the caller, with the cells that are opened so
 abbrev pub selections_by_cells : Allowed → Filter → List (List Route)
-selections_by_cells allowed wanted =
-    map alone (selection allowed wanted by.Whole)
-    ++ map (selection allowed wanted) (filter (λ asked. has_routes (selection allowed wanted asked)) relation_bys)
+selections_by_cells allowed wanted = map (selection allowed wanted) (filter (λ asked. has_routes (selection allowed wanted asked)) all_bys)
 
 -- the selections of a listing: one of each row where nothing is wanted, else those of the cells
 abbrev pub selections_of : Allowed → Filter → List (List Route)

@@ -10,7 +10,7 @@ ghost use Rattle.permit_model.specs.Routes.{kept_cells, route_by, routes_in, rou
 ghost use Rattle.permit_model.specs.Tables.{file_row, tables};
 ghost use Rattle.permit_policy.specs.Kept.{is_kept};
 ghost use Rattle.permit_policy.specs.Masks.{has_set, may};
-ghost use Rattle.permit_policy.specs.Selections.{items_of, alone, all_bys, relation_bys, opens, is_opened, selection, selections_by_cells, selections_of};
+ghost use Rattle.permit_policy.specs.Selections.{items_of, all_bys, opens, is_opened, selection, selections_by_cells, selections_of};
 
 use crate::cell::{CELLS, Cell};
 use crate::decide::Policy;
@@ -23,9 +23,6 @@ use std::alloc::{AllocError, Global};
 
 /// The most routes of a listing: 44 cells of kept rows, with 15 pairs of relations each.
 const MOST_ROUTES: usize = 660;
-
-/// The selection of every row.
-static EVERY: [Route; 1] = [Route::Every];
 
 /// What may be asked of the caller: nothing, one relation, or two, by their codes.
 static BYS: [By; 22] = [
@@ -58,13 +55,6 @@ fn bys() -> &'static [By]
     ensures { result.now ≡ all_bys }
 {
     &BYS
-}
-
-/// The relations and pairs of relations among it.
-fn relation_bys() -> &'static [By]
-    ensures { result.now ≡ relation_bys }
-{
-    &BYS[1..]
 }
 
 /// The selection of these files of the kept cell.
@@ -183,18 +173,7 @@ fn selection(
     Ok(routes)
 }
 
-/// Each route by itself.
-fn each_alone(alloc: Global, routes: &[Route]) -> Result<Vec<Vec<Route>>, AllocError>
-    ensures { IfOk result (λ all. map items_of all.items ≡ map alone routes.now) }
-{
-    let mut all = Vec::with_capacity(alloc, routes.len())?;
-    for route in routes {
-        all.push(vec![in alloc; *route]?)?;
-    }
-    Ok(all)
-}
-
-/// The selections of the cells that meet the filter: each whole cell by itself, and then one for each relation or pair.
+/// The selections of the cells that meet the filter: one for each thing that is asked of the caller.
 fn selections_by_cells(
     alloc: Global,
     masks: &Masks,
@@ -202,9 +181,8 @@ fn selections_by_cells(
 ) -> Result<Vec<Vec<Route>>, AllocError>
     ensures { IfOk result (λ all. map items_of all.items ≡ selections_by_cells (may masks.now) filter.now) }
 {
-    let whole = selection(alloc, masks, filter, By::Whole)?;
-    let mut all = each_alone(alloc, &whole)?;
-    for by in relation_bys() {
+    let mut all = Vec::new(alloc);
+    for by in bys() {
         let selection = selection(alloc, masks, filter, *by)?;
         if !selection.is_empty() {
             all.push(selection)?;
@@ -213,9 +191,8 @@ fn selections_by_cells(
     Ok(all)
 }
 
-/// The routes of a listing under these masks. Each whole cell is a selection by itself, since a store finds its rows by the cell.
-/// Those that ask the same relation or pair of the caller are one, 21 at most, so that a store goes over its rows once for all
-/// their cells. It fails only where memory runs out.
+/// The routes of a listing under these masks. Those that ask the same of the caller, be it nothing, a relation or a pair, are one
+/// selection, 22 at most, so that a store goes over its rows once for all their cells. It fails only where memory runs out.
 pub fn selections(
     alloc: Global,
     masks: &Masks,
@@ -224,7 +201,7 @@ pub fn selections(
     ensures { IfOk result (λ all. map items_of all.items ≡ selections_of (may masks.now) filter) }
 {
     if is_all(filter) && is_open_to_all(masks) {
-        return each_alone(alloc, &EVERY);
+        return Ok(vec![in alloc; vec![in alloc; Route::Every]?]?);
     }
     selections_by_cells(alloc, masks, &filter)
 }

@@ -5,6 +5,8 @@
 #[cfg(test)]
 mod examples;
 #[cfg(test)]
+mod histories;
+#[cfg(test)]
 mod listings;
 #[cfg(test)]
 mod program;

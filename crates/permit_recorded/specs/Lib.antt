@@ -1,7 +1,6 @@
 pub mod Lines
+pub mod Logs
 pub mod Recorded
 pub mod Resuming
-pub mod Asking
 pub mod Laws
 pub mod Runs
-pub mod Serving

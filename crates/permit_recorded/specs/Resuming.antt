@@ -1,9 +1,9 @@
 -- What opening an office with its history leaves.
-use Rattle.std.specs.Prelude.{◌≡◌, ◌⊎◌, ℕ, Bool, true, false, List, drop, take, ⊤}
+use Rattle.std.specs.Prelude.{◌≡◌, ◌⊎◌, ◌+◌, ℕ, IsTrue, Bool, true, false, List, drop, take, length, ⊤}
+use Rattle.std.specs.List.{list_all}
 use Rattle.permit_model.specs.History.{History}
 use Rattle.permit_model.specs.Machine.{IsHistory}
 use Rattle.permit_model.specs.Tables.{Tables, tables}
-use Rattle.permit_replay.specs.Alike.{unordered}
 use Rattle.permit_journal.specs.Files.{Grown}
 use Rattle.permit_store.specs.declared.plain.PlainStore.{PlainStore}
 use Rattle.permit_store.specs.Frames.{StoreView}
@@ -11,40 +11,50 @@ use Rattle.permit_history.specs.declared.entry.Entry.{Entry}
 use Rattle.permit_history.specs.LineData.{text_of}
 use Rattle.permit_history.specs.Meaning.{meant}
 use Rattle.permit_history.specs.Told.{told_history}
+use Rattle.permit_history.specs.Within.{is_within}
+use Rattle.permit_replay.specs.Bringing.{IsStopped, may_have_done}
 use Rattle.permit_replay.specs.Histories.{Unsaid, Completes, history_before, history_by}
-use Rattle.permit_replay.specs.Opening.{IsAlike, HasOneMore}
-use Rattle.permit_replay.specs.Prefixes.{StopsAs}
+use Rattle.permit_replay.specs.Placing.{StandsLast}
+use Rattle.permit_replay.specs.Prefixes.{IsTextOf}
 use Rattle.permit_recorded.specs.Recorded.{TellsOver}
 use Rattle.permit_recorded.specs.declared.resuming.fault.ResumeFault.{ResumeFault}
 use Rattle.permit_recorded.specs.declared.resuming.fault.ResumeFault.TheVariants as fault
 
--- The lines of the text that are the history of the tables have so many bytes. After them comes nothing or a part of a line, or
--- one whole line, after which the tables would be others, with perhaps a part of another.
-abbrev pub IsKept : (Unsaid → Type 0) → List ℕ → Tables → ℕ → Type 0
-IsKept begins bytes t size = IsAlike begins bytes t size ⊎ HasOneMore begins bytes t size
-
--- the text of before was cut to those lines
-abbrev pub IsCutTo : (Unsaid → Type 0) → List ℕ → Tables → List ℕ → Type 0
-IsCutTo begins before t after = (size : ℕ) × IsKept begins before t size × (after ≡ take size before)
+-- the text of before was cut to its whole lines
+abbrev pub IsCutTo : (Unsaid → Type 0) → List ℕ → List ℕ → Type 0
+IsCutTo begins before after = (entries : List Entry) × (left : List ℕ) × IsTextOf begins before entries left × (after ≡ text_of entries)
 
 -- so many bytes of the text are there, with a part of what came after them
 abbrev pub HasPart : (List ℕ → List ℕ → Type 0) → List ℕ → ℕ → List ℕ → Type 0
 HasPart leaves before size after = Grown leaves (drop size before) (take size before) after
 
--- The text is as it was, or it has those lines with a part of what came after them.
-abbrev pub IsPartlyCut : (Unsaid → Type 0) → (List ℕ → List ℕ → Type 0) → List ℕ → Tables → List ℕ → Type 0
-IsPartlyCut begins leaves before t after = (after ≡ before) ⊎ ((size : ℕ) × IsKept begins before t size × HasPart leaves before size after)
+-- The text is as it was, or it has its whole lines with a part of what came after them.
+abbrev pub IsPartlyCut : (Unsaid → Type 0) → (List ℕ → List ℕ → Type 0) → List ℕ → List ℕ → Type 0
+IsPartlyCut begins leaves before after =
+    (after ≡ before) ⊎ ((entries : List Entry) × (left : List ℕ) × IsTextOf begins before entries left × Grown leaves left (text_of entries) after)
+
+-- The tables were those of a prefix of the text's whole lines, and of no longer one. So many lines come after it.
+pub record IsRedone (begins : Unsaid → Type 0) (bytes : List ℕ) (t : Tables) (redone : ℕ) : Type 0 where
+  pub entries : List Entry
+  pub left : List ℕ
+  pub text : IsTextOf begins bytes entries left
+  pub before : ℕ
+  pub stood : StandsLast begins before entries t
+  pub all : before + redone ≡ length entries
 
 -- a call of the file failed
 abbrev pub is_of_file : ResumeFault → Bool
-is_of_file (fault.Compare _) = false
-is_of_file fault.Differs = false
+is_of_file (fault.Bring _) = false
 is_of_file fault.File = true
 
--- Where the text and the tables aren't compared, replaying the text stops there.
+-- whether lines may have been redone on the store before the fault
+abbrev pub may_have_redone : ResumeFault → Bool
+may_have_redone (fault.Bring why) = may_have_done why
+may_have_redone fault.File = true
+
+-- Where the store isn't brought to the end of the text, replaying the text stops there.
 abbrev pub StopsBy : (PlainStore → StoreView) → (Unsaid → Type 0) → List ℕ → ResumeFault → Type 0
-StopsBy view begins bytes (fault.Compare why) = StopsAs view begins bytes why
-StopsBy view begins bytes fault.Differs = ⊤
+StopsBy view begins bytes (fault.Bring why) = IsStopped view begins bytes why
 StopsBy view begins bytes fault.File = ⊤
 
 -- the store holds the history's tables, and the text gives it over the start
@@ -53,12 +63,13 @@ pub record HasHistory (start : List Entry) (text : List ℕ) (store : StoreView)
   pub held : store.holds (tables h)
   pub told : TellsOver start text h
 
--- The text is that of entries. By whatever completes these it gives a history whose tables the store holds, but for orders that no
--- call shows: the history that was there before, and what the entries mean over it.
+-- The text is that of entries. By whatever completes these it gives a history whose tables the store holds: the history that was
+-- there before, and what the entries mean over it.
 pub record IsResumed (begins : Unsaid → Type 0) (text : List ℕ) (store : StoreView) : Type 0 where
   pub entries : List Entry
   pub text_is : text ≡ text_of entries
+  pub within : IsTrue (list_all is_within entries)
   pub has : (unsaid : Unsaid) → Completes begins unsaid entries
-      → HasHistory (told_history (history_before unsaid)) text (unordered store) (history_by unsaid entries)
+      → HasHistory (told_history (history_before unsaid)) text store (history_by unsaid entries)
   pub meant_is : (unsaid : Unsaid) → Completes begins unsaid entries
       → meant (told_history (history_before unsaid)) entries ≡ told_history (history_by unsaid entries)

@@ -1,5 +1,5 @@
 -- A run of an office with a history, and what it leaves.
-use Rattle.std.specs.Prelude.{◌≡◌, ◌⊎◌, ℕ, Bool, false, if◌then◌else◌, IsTrue, List, [], ◌∷◌, ⊤}
+use Rattle.std.specs.Prelude.{◌≡◌, ◌⊎◌, ℕ, false, if◌then◌else◌, IsTrue, List, [], ◌∷◌, ⊤}
 use Rattle.permit_base.specs.Digests.{digest_of}
 use Rattle.permit_base.specs.declared.request.Asked.{Asked}
 use Rattle.permit_model.specs.History.{History}
@@ -7,11 +7,13 @@ use Rattle.permit_model.specs.Machine.{IsHistory, Outcome, step_as}
 use Rattle.permit_model.specs.Policy.{Policy}
 use Rattle.permit_model.specs.Tables.{tables}
 use Rattle.permit_history.specs.declared.entry.Entry.{Entry}
+use Rattle.permit_journal.specs.Files.{FileView}
 use Rattle.permit_journal.specs.Journals.{IsSettled}
 use Rattle.permit_office.specs.Answers.{is_store_refusal, reply_of}
+use Rattle.permit_office.specs.Office.{OfficeView}
 use Rattle.permit_office.specs.declared.reply.Reply.{Reply as Given}
 use Rattle.permit_store.specs.Frames.{StoreView}
-use Rattle.permit_recorded.specs.Recorded.{RecordedView}
+use Rattle.permit_recorded.specs.Logs.{LogView}
 use Rattle.permit_recorded.specs.Resuming.{HasHistory}
 
 -- a request that was served on the day, and the reply
@@ -50,15 +52,15 @@ module _ (policy : Policy) where
 
 -- ---- the office and its history
 
-module _ {S H : Type 0} (view : S → StoreView) (text : H → List ℕ) (may_leave : H → List ℕ → Type 0) (is_clean : H → Bool) (start : List Entry) where
+module _ {S H : Type 0} (view : S → StoreView) (file_view : H → FileView) (start : List Entry) where
   -- the office is that of the history: its store holds the tables, its text gives the history over the start, and its journal is
   -- settled
-  pub record IsOf (office : RecordedView S H) (h : History) : Type 0 where
-    pub has : HasHistory start (text office.journal.file) (view office.store) h
-    pub settled : IsSettled text may_leave is_clean office.journal
+  pub record IsOf (office : OfficeView S (LogView H)) (h : History) : Type 0 where
+    pub has : HasHistory start (file_view office.log.journal.file).text (view office.store) h
+    pub settled : IsSettled file_view office.log.journal
 
   -- its store holds the history's tables, and unless the journal is shut the office is that of the history
-  pub record IsLeftWith (office : RecordedView S H) (h : History) : Type 0 where
+  pub record IsLeftWith (office : OfficeView S (LogView H)) (h : History) : Type 0 where
     pub history : IsHistory h
     pub held : (view office.store).holds (tables h)
-    pub stands : office.journal.is_shut ≡ false → IsOf office h
+    pub stands : office.log.journal.is_shut ≡ false → IsOf office h

@@ -1,11 +1,11 @@
-//! An office with a history: each command's line is in the history's file, and on the disk, before the command is done.
+//! The history of an office: each command's line is in the history's file, and on the disk, before the command is done.
 //!
-//! `recorded` has the office, `resuming` opens one after a crash, and `recorder` serves its requests.
+//! `log::HistoryLog` is the log of an office with a history, and the laws say what such an office leaves of it. `resuming` brings a
+//! store to its history after a crash.
 #![tactic(auto)]
 
 mod copied;
-mod entering;
+pub mod laws;
 mod line;
-pub mod recorded;
-pub mod recorder;
+pub mod log;
 pub mod resuming;

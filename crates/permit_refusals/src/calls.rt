@@ -2,6 +2,7 @@
 
 use crate::failing::Failing;
 use crate::serving::{opened, scenarios};
+use permit_office::log::NoLog;
 use permit_office::office::Office;
 use permit_policy::text::read_policy;
 use permit_samples::ask::read_ask;
@@ -28,9 +29,9 @@ fn reopened(
 ) -> Result<Office<Failing<PlainStore>>, Fail> {
     let store = Held::new(store);
     let policy = read_policy(alloc, POLICY)?;
-    match Office::open(store.into_inner(), policy) {
+    match Office::open(store.into_inner(), policy, NoLog) {
         Ok(office) => Ok(office),
-        Err((_, _)) => Err(Fail::new("an office on what came back")),
+        Err(_) => Err(Fail::new("an office on what came back")),
     }
 }
 
@@ -39,9 +40,9 @@ fn reopened(
 fn office_failing_at(alloc: Global, number: u32) -> Result<Office<Failing<PlainStore>>, Fail> {
     let policy = Held::new(read_policy(alloc, POLICY)?);
     let store = Failing::new(opened(alloc)?.into_store(), number);
-    match Office::open(store, policy.into_inner()) {
+    match Office::open(store, policy.into_inner(), NoLog) {
         Ok(office) => Ok(office),
-        Err((store, _)) => reopened(alloc, store),
+        Err((store, _, _)) => reopened(alloc, store),
     }
 }
 

@@ -12,6 +12,7 @@ use permit_hall::events::{Event, hall_run};
 use permit_http::inbox::Inbox;
 use permit_import::fault::ImportFault;
 use permit_import::importing::import;
+use permit_office::log::NoLog;
 use permit_office::office::Office;
 use permit_office::reply::Reply;
 use permit_office::showing::RowsEnd;
@@ -59,9 +60,9 @@ fn open(rt: &(impl Print + AllocGlobal), store: PlainStore) -> Result<(), Fail> 
     let store = Held::new(store);
     println!(rt; "0 made")?;
     let policy = read_policy(rt.alloc(), POLICY)?;
-    match Office::open(store.into_inner(), policy) {
+    match Office::open(store.into_inner(), policy, NoLog) {
         Ok(office) => print_tables(rt, office),
-        Err((_, _)) => Err(Fail::new("no office")),
+        Err(_) => Err(Fail::new("no office")),
     }
 }
 

@@ -1,8 +1,7 @@
 -- A command that is done is an accepted one.
-use Rattle.std.proofs.Common.{◌≡◌, ◌≤◌, refl, sym, ap, ◌∙◌, subst, ℕ, Bool, true, false, List, [], ◌∷◌, Option, None, Some, arith, inl, inr}
+use Rattle.std.proofs.Common.{◌≡◌, refl, sym, ap, subst, ℕ, Bool, true, false, List, [], ◌∷◌, Option, None, Some, inl, inr}
 use Rattle.std.specs.Prelude.{IsTrue, Result, Ok, Err, IfOk, IfErr, nat_lt, if◌then◌else◌}
-use Rattle.std.proofs.lemmas.Bool.{eqb-true, false≢true}
-use Rattle.std.proofs.lemmas.Bool.Decides.{nat_tests}
+use Rattle.std.proofs.lemmas.Bool.{eqb-true, false≢true, ltb-false}
 use Rattle.permit_base.specs.declared.words.Edition.TheVariants.{First, Second}
 use Rattle.permit_base.specs.declared.refusal.Reason.{Reason}
 use Rattle.permit_base.specs.declared.refusal.Refusal.TheVariants as refusal
@@ -26,10 +25,7 @@ use Rattle.permit_replay.specs.declared.fault.Why.{Why}
 use Rattle.permit_replay.specs.declared.fault.Why.TheVariants as why
 use Rattle.permit_replay.specs.Against.{is_same, against, against_later, against_reply, against_upgrade}
 use Rattle.permit_replay.specs.Histories.{Unsaid, request_by}
-use Rattle.permit_store.specs.declared.plain.PlainStore.{PlainStore}
-use Rattle.permit_store.specs.Frames.{StoreView}
-use Rattle.permit_replay.specs.declared.replayed.Replayed.TheVariants as replayed
-use Rattle.permit_replay.specs.Holding.{FailsAs, Follows, IsAgainst, Takes}
+use Rattle.permit_replay.specs.Holding.{FailsAs, Follows, IsAgainst}
 
 -- ---- what is done was accepted
 
@@ -52,9 +48,6 @@ passed : (b : Bool) → (if b then None else Some why.Number) ≡ None → b ≡
 passed true e = refl
 passed false e = absurd cc
 
-reached : (last day : ℕ) → nat_lt day last ≡ false → last ≤ day
-reached last day e = grind (arith, nat_tests)
-
 abbrev OnOutcome : History → ℕ → ℕ → Request → Option ℕ → Outcome → Type 0
 OnOutcome h day caller asked number o = against_reply number o.reply ≡ None → IsDone h day caller asked number o
 
@@ -69,7 +62,7 @@ by_reason h day caller asked number command known time there None is e =
       accepted = record {
         command = command;
         caller_there = known;
-        in_time = reached (last_day h) day time;
+        in_time = ltb-false day (last_day h) time;
         record_there = there;
         admitted = is;
         numbered = sym same;
@@ -180,14 +173,3 @@ pub behind : (unsaid : Unsaid) (h : History) (day : ℕ) (done : TheDeed) → Is
 behind unsaid [] day done is second = absurd is
 behind unsaid (first ∷ []) day done is second = let one = founded first first.deed is in absurd cc
 behind unsaid (last ∷ other ∷ before) day done is second = refl
-
--- ---- what a store over vectors then holds
-
-pub taken_behind : (view : PlainStore → StoreView) (unsaid : Unsaid) (h : History) (day : ℕ) (done : TheDeed) (store : PlainStore) (taken : Unit {0})
-    → IsHistory h → edition h ≡ Second → Follows (view store).holds unsaid h day done (Ok taken)
-    → Takes view unsaid h day done (Ok (replayed.Open store))
-taken_behind view unsaid h day done store taken is second so = (behind unsaid h day done is second ∙ so.0, so.1)
-
-pub refused_behind : (view : PlainStore → StoreView) (holds : Tables → Type 0) (unsaid : Unsaid) (h : History) (day : ℕ) (done : TheDeed) (w : Why)
-    → IsHistory h → edition h ≡ Second → Follows holds unsaid h day done (Err w) → Takes view unsaid h day done (Err w)
-refused_behind view holds unsaid h day done w is second so = rw (behind unsaid h day done is second) so

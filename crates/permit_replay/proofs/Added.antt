@@ -15,9 +15,6 @@ adds_both a b x y z first second = record {
   holds = λ m held. subst (Holds256 z) (append_assoc m a b) (second.holds (m ++ a) (first.holds m held));
 }
 
-pub adds_nothing : (x : Sha256) → Adds [] x x
-adds_nothing x = record { holds = λ m held. subst (Holds256 x) (sym (append-nil m)) held }
-
 pub adds_same : (a b : List ℕ) (x y : Sha256) → a ≡ b → Adds a x y → Adds b x y
 adds_same a b x y e adds = subst (λ (t : List ℕ). Adds t x y) e adds
 

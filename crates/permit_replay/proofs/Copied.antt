@@ -1,7 +1,7 @@
 -- A text that begins with an office that was there.
-use Rattle.std.proofs.Common.{◌≡◌, ◌≤◌, refl, sym, ap, ◌∙◌, ℕ, Bool, true, false, List, [], None, Some}
+use Rattle.std.proofs.Common.{◌≡◌, ◌≤◌, sym, ap, ◌∙◌, ℕ, Bool, true, false, List, [], None, Some}
 use Rattle.std.specs.Prelude.{Ok, Err, not, bytes_eq, if◌then◌else◌, ◌==◌}
-use Rattle.std.proofs.lemmas.Bool.{eq-eqb, eqb-true}
+use Rattle.std.proofs.lemmas.Bool.{eq-eqb, ne_eqb, not-false}
 use Rattle.permit_base.specs.Limits.{latest_day}
 use Rattle.permit_model.specs.History.{History, last_day}
 use Rattle.permit_model.specs.Machine.{IsHistory}
@@ -36,37 +36,7 @@ sound_tables h is limits time = record {
   papers = papers_sound h is limits;
 }
 
--- a copy of the copy is one too
-pub copied : (view : PlainStore → StoreView) (copy : CopiedTables) (store : PlainStore) (unsaid : Unsaid) → IsBeginning view (beginning.Copy copy) unsaid
-    → ((t : Tables) → (view copy.store).holds t → IsSoundTables t → (view store).holds t)
-    → IsBeginning view (beginning.Copy (record { store = store; tables = copy.tables })) unsaid
-copied view copy store unsaid (begun, same, of) holds = (
-  begun,
-  same,
-  record {
-    held = record {
-      history = of.held.history;
-      upgraded = of.held.upgraded;
-      held = holds (tables begun.history) of.held.held (sound_tables begun.history of.held.history of.within of.timely);
-    };
-    within = of.within;
-    timely = of.timely;
-    tables = of.tables;
-  },
-)
-
 -- ---- the first line
-
-not_other : (b : Bool) → false ≡ not b → b ≡ true
-not_other true e = refl
-not_other false e = absurd cc
-
-unlike : (m n : ℕ) → (m ≡ n → ⊥) → (m == n) ≡ false
-unlike m n never = by (m == n) refl
-  where
-    by : (b : Bool) → (m == n) ≡ b → (m == n) ≡ false
-    by true e = absurd (never (eqb-true m n e))
-    by false e = e
 
 first_test : (b : Bool) (day last : ℕ) → b ≡ true → day ≡ last
     → (if b then if day == last then None else Some why.CopyDay else Some why.OtherCopy) ≡ None
@@ -80,7 +50,7 @@ pub taken : (view : PlainStore → StoreView) (copy : CopiedTables) (store : Pla
     → ((t : Tables) → (view copy.store).holds t → (view store).holds t)
     → Takes view unsaid [] day (deed.Begin digest) (Ok (replayed.Open store))
 taken view copy store unsaid day last digest (begun, same, of) digests days desk kept = rw same (
-  first_test (bytes_eq digest begun.tables) day (last_day begun.history) (ap (bytes_eq digest) of.tables ∙ not_other _ digests)
+  first_test (bytes_eq digest begun.tables) day (last_day begun.history) (ap (bytes_eq digest) of.tables ∙ not-false _ (sym digests))
       (days ∙ desk (tables begun.history) of.held.held),
   record { history = of.held.history; upgraded = of.held.upgraded; held = kept (tables begun.history) of.held.held },
 )
@@ -93,5 +63,5 @@ pub day_taken : (view : PlainStore → StoreView) (copy : CopiedTables) (unsaid 
 day_taken view copy unsaid day last digest (begun, same, of) digests days desk =
     ap (λ o. against_copy o digest day) same
     ∙ ap (λ (b : Bool). if b then if day == last_day begun.history then None else Some why.CopyDay else Some why.OtherCopy)
-    (ap (bytes_eq digest) of.tables ∙ not_other _ digests)
-    ∙ ap (λ (b : Bool). if b then None else Some why.CopyDay) (unlike day (last_day begun.history) (λ one. days (one ∙ sym (desk (tables begun.history) of.held.held))))
+    (ap (bytes_eq digest) of.tables ∙ not-false _ (sym digests))
+    ∙ ap (λ (b : Bool). if b then None else Some why.CopyDay) (ne_eqb day (last_day begun.history) (λ one. days (one ∙ sym (desk (tables begun.history) of.held.held))))

@@ -2,7 +2,8 @@
 use Rattle.std.proofs.Common.{◌≡◌, ℕ, ◌==◌, Bool, true, false, List, [], ◌∷◌, refl, sym, ◌∙◌, ap, subst}
 use Rattle.std.specs.Prelude.{◌&&◌, ◌||◌}
 use Rattle.std.specs.List.{list_all}
-use Rattle.std.proofs.lemmas.Bool.{and_parts, and_from, eqb-true, eq-eqb}
+use Rattle.std.proofs.lemmas.Bool.{and_parts, and_from, eqb-true, eq-eqb, or_right}
+use Rattle.std.proofs.lemmas.Bool.Decides.{same_from_decides}
 use Rattle.permit_model.specs.Parcels.{Interest}
 use Rattle.permit_store.specs.Interests.{DeclareSame, is_declared}
 
@@ -26,10 +27,6 @@ declared held (x ∷ given) all parcel party there =
         (subst (λ n. is_declared x.parcel n held ≡ true) (eqb-true x.party party two.1) here)
     by false at here rest there = rest there
 
-or_true : (a : Bool) → (a || true) ≡ true
-or_true true = refl
-or_true false = refl
-
 all_there : (held given : List Interest) → ((parcel party : ℕ) → is_declared parcel party given ≡ true → is_declared parcel party held ≡ true)
     → are_in held given ≡ true
 all_there held [] said = refl
@@ -39,18 +36,14 @@ all_there held (x ∷ given) said =
     (and_from (x.parcel == x.parcel) (x.party == x.party) (eq-eqb x.parcel x.parcel refl) (eq-eqb x.party x.party refl)) in
     and_from (is_declared x.parcel x.party held) (are_in held given) (said x.parcel x.party here)
     (all_there held given (λ parcel party there. said parcel party
-    (ap (λ b. ((x.parcel == parcel) && (x.party == party)) || b) there ∙ or_true ((x.parcel == parcel) && (x.party == party)))))
-
-same_truth : (a b : Bool) → (a ≡ true → b ≡ true) → (b ≡ true → a ≡ true) → a ≡ b
-same_truth true b there back = sym (there refl)
-same_truth false true there back = back refl
-same_truth false false there back = refl
+    (ap (λ b. ((x.parcel == parcel) && (x.party == party)) || b) there ∙ or_right ((x.parcel == parcel) && (x.party == party)) true refl)))
 
 pub both_ways : (t u one other : List Interest) → DeclareSame one t → DeclareSame other u → are_in u one ≡ true → are_in t other ≡ true → DeclareSame t u
 both_ways t u one other first second there back parcel party =
-    same_truth (is_declared parcel party t) (is_declared parcel party u)
-    (λ e. declared u one there parcel party (first parcel party ∙ e))
-    (λ e. declared t other back parcel party (second parcel party ∙ e))
+    same_from_decides {P = is_declared parcel party u ≡ true} (is_declared parcel party t) (is_declared parcel party u) (
+      λ e. declared u one there parcel party (first parcel party ∙ e),
+      λ e. declared t other back parcel party (second parcel party ∙ e),
+    ) (λ e. e, λ e. e)
 
 pub there_where_same : (t u one : List Interest) → DeclareSame one t → DeclareSame t u → are_in u one ≡ true
 there_where_same t u one first same = all_there u one (λ parcel party e. sym (same parcel party) ∙ sym (first parcel party) ∙ e)

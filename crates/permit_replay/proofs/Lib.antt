@@ -17,12 +17,11 @@ mod Sorted
 mod Numbering
 mod Few
 mod SealedTables
-mod Letters
 mod OneOrder
 mod OneSeal
 pub mod SoundTables
-pub mod Earlier
 pub mod Lines
 pub mod Looking
 pub mod Opened
+pub mod Placed
 pub mod Brought

@@ -1,14 +1,10 @@
 -- Calls that only read.
 use Rattle.std.proofs.Common.{◌≡◌, ◌∙◌, refl, ℕ, arith}
-use Rattle.std.specs.Prelude.{Result}
-use Rattle.permit_store.specs.Frames.{StoreView, Reads}
+use Rattle.permit_store.specs.Frames.{StoreView}
 use Rattle.permit_replay.specs.Comparing.{Looks}
 
-pub looks_once : {A E : Type 0} (sure : Type 0) (count : ℕ) (old new : StoreView) (r : Result A E) → Reads sure count old new r → Looks old new
-looks_once sure count old new r read = record { kept = read.kept; doubt = read.doubt; commits = read.commits }
-
-pub looks_on : (old mid new : StoreView) → Looks old mid → Looks mid new → Looks old new
-looks_on old mid new a b = record {
+pub looks_on : {old mid new : StoreView} → Looks old mid → Looks mid new → Looks old new
+looks_on a b = record {
   kept = λ t h. b.kept t (a.kept t h);
   doubt = omega (arith, a.doubt, b.doubt);
   commits = b.commits ∙ a.commits;
@@ -17,5 +13,5 @@ looks_on old mid new a b = record {
 pub looks_still : (s : StoreView) → Looks s s
 looks_still s = record { kept = λ t h. h; doubt = omega arith; commits = refl }
 
-pub clean_before : (old new : StoreView) → Looks old new → new.doubt ≡ 0 → old.doubt ≡ 0
-clean_before old new looks clean = omega (arith, looks.doubt, clean)
+pub clean_before : {old new : StoreView} → Looks old new → new.doubt ≡ 0 → old.doubt ≡ 0
+clean_before looks clean = omega (arith, looks.doubt, clean)

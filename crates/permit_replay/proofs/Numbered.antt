@@ -1,20 +1,14 @@
 -- Rows that are numbered without a gap are known by what is found of each number.
-use Rattle.std.proofs.Common.{◌≡◌, ◌<◌, ◌≤◌, ℕ, ◌+◌, ◌==◌, true, false, cond, List, [], ◌∷◌, length, find, refl, sym, ◌∙◌, ap, arith}
+use Rattle.std.proofs.Common.{◌≡◌, ◌<◌, ◌≤◌, ℕ, ◌+◌, ◌==◌, cond, List, [], ◌∷◌, length, find, refl, sym, ◌∙◌, ap, arith}
 use Rattle.std.specs.Prelude.{Some, unwrap_or}
-use Rattle.std.proofs.lemmas.Bool.Decides.{nat_tests}
+use Rattle.std.proofs.lemmas.Bool.{eq-eqb, ne_eqb}
 use Rattle.permit_model.specs.Numbering.{IsNumberedFrom}
 
-same_test : (a b : ℕ) → a ≡ b → (a == b) ≡ true
-same_test a b e = grind (arith, nat_tests)
-
-other_test : (a b : ℕ) → a < b → (a == b) ≡ false
-other_test a b less = grind (arith, nat_tests)
-
 at_head : {A : Type 0} (number : A → ℕ) (x : A) (xs : List A) (n : ℕ) → number x ≡ n → find (λ a. number a == n) (x ∷ xs) ≡ Some x
-at_head number x xs n e = ap (λ b. cond b (Some x) (find (λ a. number a == n) xs)) (same_test (number x) n e)
+at_head number x xs n e = ap (λ b. cond b (Some x) (find (λ a. number a == n) xs)) (eq-eqb (number x) n e)
 
 behind : {A : Type 0} (number : A → ℕ) (x : A) (xs : List A) (n : ℕ) → number x < n → find (λ a. number a == n) (x ∷ xs) ≡ find (λ a. number a == n) xs
-behind number x xs n less = ap (λ b. cond b (Some x) (find (λ a. number a == n) xs)) (other_test (number x) n less)
+behind number x xs n less = ap (λ b. cond b (Some x) (find (λ a. number a == n) xs)) (ne_eqb (number x) n (λ e. absurd (omega (arith, e, less))))
 
 pub same_rows : {A : Type 0} (number : A → ℕ) (first : ℕ) (xs ys : List A) → IsNumberedFrom number first xs → IsNumberedFrom number first ys → length xs ≡ length ys
     → ((n : ℕ) → first ≤ n → n < first + length xs → find (λ a. number a == n) xs ≡ find (λ a. number a == n) ys) → xs ≡ ys

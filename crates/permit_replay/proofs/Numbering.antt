@@ -1,28 +1,22 @@
 -- The texts of the numbers of a table are those of its rows.
-use Rattle.std.proofs.Common.{◌≡◌, ◌<◌, ◌≤◌, ℕ, zero, suc, ◌+◌, ◌-◌, ◌==◌, true, false, cond, List, [], ◌∷◌, ◌++◌, length, find, get_or, take, refl, sym, ◌∙◌, ap, arith}
+use Rattle.std.proofs.Common.{◌≡◌, ◌<◌, ◌≤◌, ℕ, zero, suc, ◌+◌, ◌-◌, ◌==◌, true, cond, List, [], ◌∷◌, ◌++◌, length, find, get_or, take, refl, sym, ◌∙◌, ap, arith}
 use Rattle.std.specs.Prelude.{Option, Some, is_some, option_map, unwrap_or}
 use Rattle.std.specs.List.{flat_map}
-use Rattle.std.proofs.lemmas.Bool.Decides.{nat_tests}
+use Rattle.std.proofs.lemmas.Bool.{eq-eqb, ne_eqb}
 use Rattle.std.proofs.lemmas.Grind.{flat_map-append}
 use Rattle.std.proofs.lemmas.List.{append-nil, take_all, take_more}
 use Rattle.std.proofs.lemmas.List.Concat.{flat_map-cons}
 use Rattle.permit_model.specs.Numbering.{IsNumbered, IsNumberedFrom}
 use Rattle.permit_replay.specs.Numbered.{numbers_text}
 
-same_test : (a b : ℕ) → a ≡ b → (a == b) ≡ true
-same_test a b e = grind (arith, nat_tests)
-
-other_test : (a b : ℕ) → a < b → (a == b) ≡ false
-other_test a b less = grind (arith, nat_tests)
-
 module _ {A : Type 0} (number : A → ℕ) where
   found : (first : ℕ) (xs : List A) → IsNumberedFrom number first xs → (k n : ℕ) (d : A) → k < length xs → n ≡ first + k
       → find (λ a. number a == n) xs ≡ Some (get_or xs k d)
   found first [] numbered k n d less at = absurd (omega (arith, less))
   found first (x ∷ xs) numbered zero n d less at =
-      ap (λ b. cond b (Some x) (find (λ a. number a == n) xs)) (same_test (number x) n (omega (arith, numbered.0, at)))
+      ap (λ b. cond b (Some x) (find (λ a. number a == n) xs)) (eq-eqb (number x) n (omega (arith, numbered.0, at)))
   found first (x ∷ xs) numbered (suc k) n d less at =
-      ap (λ b. cond b (Some x) (find (λ a. number a == n) xs)) (other_test (number x) n (omega (arith, numbered.0, at)))
+      ap (λ b. cond b (Some x) (find (λ a. number a == n) xs)) (ne_eqb (number x) n (λ e. absurd (omega (arith, numbered.0, at, e))))
       ∙ found (first + 1) xs numbered.1 k n d (omega (arith, less)) (omega (arith, at))
 
   its_number : (first : ℕ) (xs : List A) → IsNumberedFrom number first xs → (k n : ℕ) (d : A) → k < length xs → n ≡ first + k

@@ -1,6 +1,6 @@
 -- One more line of a text.
 use Rattle.std.proofs.Common.{◌≡◌, refl, sym, ap, ◌∙◌, subst, ℕ, ◌+◌, List, [], ◌∷◌, ◌++◌, length, Option, None, Some, option_map, arith, length-append, inl, inr}
-use Rattle.std.specs.Prelude.{◌⊎◌, Result, Ok, Err, IfSome, IfOk, IfErr}
+use Rattle.std.specs.Prelude.{◌⊎◌, Result, Ok, Err, IfSome}
 use Rattle.std.specs.Io.BufRead.{drop_through}
 use Rattle.permit_model.specs.History.{History}
 use Rattle.permit_store.specs.declared.plain.PlainStore.{PlainStore}
@@ -14,15 +14,11 @@ use Rattle.permit_history.specs.Outcome.{IsUnlessMemory}
 use Rattle.permit_history.specs.Told.{told_history}
 use Rattle.permit_history.specs.Text.{next_line, AnswersLine, GivesInTurn}
 use Rattle.permit_replay.specs.declared.fault.Why.{Why}
-use Rattle.permit_replay.specs.declared.beginning.Beginning.{Beginning}
-use Rattle.permit_replay.specs.declared.fault.ReplayFault.{ReplayFault}
-use Rattle.permit_replay.specs.declared.fault.ReplayFault.TheVariants as replay_fault
 use Rattle.permit_replay.specs.declared.replayed.Replayed.{Replayed}
-use Rattle.permit_replay.specs.declared.replayed.Replayed.TheVariants as replayed
 use Rattle.permit_replay.specs.Against.{against}
 use Rattle.permit_replay.specs.Histories.{Unsaid, Completes, HasToken, HaveTokens, history_before, history_with, history_from, history_by}
-use Rattle.permit_replay.specs.Holding.{Holds, IsBeginning, FailsAs, Takes}
-use Rattle.permit_replay.specs.Texts.{EndsAs, HasReplayed, IsAtFault, IsReplayed, StopsAt}
+use Rattle.permit_replay.specs.Holding.{Holds, FailsAs, Takes}
+use Rattle.permit_replay.specs.Texts.{HasReplayed, IsAtFault}
 use Rattle.permit_replay.proofs.Telling.{told_with, meant_last}
 
 -- ---- what the line says
@@ -88,11 +84,11 @@ pub tokens_parted : (begins : Unsaid → Type 0) (unsaid : Unsaid) (entries : Li
 tokens_parted begins unsaid entries entry (said, have) = let parts = have_parted unsaid entries entry have in ((said, parts.0), parts.1)
 
 -- what is replayed with it
-pub replayed_more : (view : PlainStore → StoreView) (begins : Unsaid → Type 0) (bytes : List ℕ) (entries : List Entry) (left : List ℕ) (entry : Entry) (before_it after : Replayed)
+pub replayed_more : {view : PlainStore → StoreView} {begins : Unsaid → Type 0} {bytes left : List ℕ} {entries : List Entry} {before_it after : Replayed} (entry : Entry)
     → HasReplayed view begins bytes entries left before_it → AnswersLine (Ok entry) (next_line left)
     → ((unsaid : Unsaid) (h : History) → Holds view unsaid before_it h → HasToken unsaid entry.deed → Takes view unsaid h entry.day entry.deed (Ok after))
     → HasReplayed view begins bytes (entries ++ entry ∷ []) (drop_through 10 left) after
-replayed_more view begins bytes entries left entry before_it after has answer takes = record {
+replayed_more {view} {begins} {bytes} {left} {entries} {before_it} {after} entry has answer takes = record {
   given = given_more bytes entries left entry has.given answer;
   held = λ unsaid have.
       let parts = tokens_parted begins unsaid entries entry have in
@@ -108,12 +104,12 @@ replayed_more view begins bytes entries left entry before_it after has answer ta
 }
 
 -- the reason against it
-pub stopped_there : (view : PlainStore → StoreView) (begins : Unsaid → Type 0) (bytes : List ℕ) (entries : List Entry) (left : List ℕ) (entry : Entry) (before : Replayed) (why : Why)
+pub stopped_there : {view : PlainStore → StoreView} {begins : Unsaid → Type 0} {bytes left : List ℕ} {entries : List Entry} {before : Replayed} (entry : Entry) (why : Why)
     → HasReplayed view begins bytes entries left before
     → ((unsaid : Unsaid) (h : History) → Holds view unsaid before h → HasToken unsaid entry.deed → Takes view unsaid h entry.day entry.deed (Err why))
     → (unsaid : Unsaid) → Completes begins unsaid (entries ++ entry ∷ [])
     → FailsAs why (against unsaid (history_by unsaid entries) entry.day entry.deed)
-stopped_there view begins bytes entries left entry before why has takes unsaid have =
+stopped_there {view} {begins} {bytes} {left} {entries} {before} entry why has takes unsaid have =
     let parts = tokens_parted begins unsaid entries entry have in
     takes unsaid (history_by unsaid entries) (has.held unsaid parts.0) parts.1
 
@@ -129,30 +125,3 @@ if_some (Some x) P all = all x refl
 pub some_at : {A : Type 0} (o : Option A) (P : A → Type 0) (x : A) → IfSome o P → o ≡ Some x → P x
 some_at None P x said e = absurd cc
 some_at (Some y) P x said e = let same : y ≡ x = cc in subst P same said
-
--- ---- the end
-
-pub ends_well : (view : PlainStore → StoreView) (begins : Unsaid → Type 0) (bytes : List ℕ) (entries : List Entry) (left : List ℕ) (as_far : Replayed)
-    (result : Result PlainStore ReplayFault) → HasReplayed view begins bytes entries left as_far → next_line left ≡ None → EndsAs as_far result
-    → IfOk result (IsReplayed view begins bytes)
-ends_well view begins bytes entries left (replayed.Nothing beginning) result has none e = subst (λ r. IfOk r (IsReplayed view begins bytes)) (sym e) tt
-ends_well view begins bytes entries left (replayed.Founded founder) result has none e = subst (λ r. IfOk r (IsReplayed view begins bytes)) (sym e) tt
-ends_well view begins bytes entries left (replayed.Open store) result has none e =
-    subst (λ r. IfOk r (IsReplayed view begins bytes)) (sym e) (entries, left, has, none)
-
-pub ends_short : (view : PlainStore → StoreView) (begins : Unsaid → Type 0) (bytes : List ℕ) (entries : List Entry) (left : List ℕ) (as_far : Replayed)
-    (result : Result PlainStore ReplayFault) → HasReplayed view begins bytes entries left as_far → next_line left ≡ None → EndsAs as_far result
-    → IfErr result (StopsAt view begins bytes)
-ends_short view begins bytes entries left (replayed.Nothing beginning) result has none e =
-    subst (λ r. IfErr r (StopsAt view begins bytes)) (sym e) (entries, left, replayed.Nothing beginning, has, none, tt)
-ends_short view begins bytes entries left (replayed.Founded founder) result has none e =
-    subst (λ r. IfErr r (StopsAt view begins bytes)) (sym e) (entries, left, replayed.Founded founder, has, none, tt)
-ends_short view begins bytes entries left (replayed.Open store) result has none e = subst (λ r. IfErr r (StopsAt view begins bytes)) (sym e) tt
-
--- ---- the start
-
--- memory was refused before the first line
-pub none_read : (view : PlainStore → StoreView) (beginning : Beginning) (bytes : List ℕ)
-    → StopsAt view (IsBeginning view beginning) bytes (replay_fault.Line 1 line_fault.Memory)
-none_read view beginning bytes =
-    ([], bytes, replayed.Nothing beginning, record { given = refl; held = λ unsaid have. (refl, have.0); told = λ unsaid have. refl }, refl, tt)

@@ -1,5 +1,5 @@
 -- Interests sorted, and thinned of equal ones.
-use Rattle.std.proofs.Common.{◌≡◌, ℕ, ◌==◌, Bool, true, false, List, refl, sym, ◌∙◌, ap, subst, arith}
+use Rattle.std.proofs.Common.{◌≡◌, ℕ, ◌==◌, Bool, true, List, sym, ◌∙◌, ap, subst, arith}
 use Rattle.std.specs.Prelude.{◌&&◌}
 use Rattle.std.specs.Cmp.{IsEquivalence, IsTotalOrder}
 use Rattle.std.specs.Cmp.Derive.{Tied, tie, on_tied, then_tied}
@@ -7,7 +7,7 @@ use Rattle.std.specs.List.{Contains, dedup}
 use Rattle.std.specs.List.Sorted.{IsPermutation, IsSorted, IsStrictlySortedBy}
 use Rattle.std.specs.Ordering.{nat_cmp, eq_by_cmp}
 use Rattle.std.proofs.lemmas.Bool.{and_parts, eqb-true}
-use Rattle.std.proofs.lemmas.Bool.Decides.{nat_tests}
+use Rattle.std.proofs.lemmas.Bool.Decides.{nat_tests, same_from_decides}
 use Rattle.std.proofs.lemmas.Cmp.{nat_cmp_total, nat_eq_equiv, on_total, then_total, on_equiv, and_equiv}
 use Rattle.std.proofs.lemmas.List.Kept.{Contains-dedup, Contains-from_dedup, IsStrictlySortedBy-dedup}
 use Rattle.std.proofs.lemmas.List.Sorted.{IsPermutation-sym, Contains-permutation}
@@ -59,15 +59,11 @@ declared_more xs ys more parcel party e =
     let one : Interest = record { parcel = parcel; party = party } in
     list_any-from_Contains asked_equivalence one ys (more one (Contains-from_any (λ x y h. sym (same_one y x h)) one xs e))
 
-same_truth : (a b : Bool) → (a ≡ true → b ≡ true) → (b ≡ true → a ≡ true) → a ≡ b
-same_truth true b there back = sym (there refl)
-same_truth false true there back = back refl
-same_truth false false there back = refl
-
 pub declare_same : (interests sorted kept : List Interest) → IsPermutation interests sorted → kept ≡ dedup same_interest sorted → DeclareSame kept interests
 declare_same interests sorted kept moved thin parcel party =
-    same_truth (is_declared parcel party kept) (is_declared parcel party interests)
-    (declared_more kept interests (λ i there. Contains-permutation sorted interests i (IsPermutation-sym interests sorted moved)
-    (Contains-from_dedup same_interest sorted i (subst (λ xs. Contains xs i) thin there))) parcel party)
-    (declared_more interests kept (λ i there. subst (λ xs. Contains xs i) (sym thin)
-    (Contains-dedup same_equivalence same_one sorted i (Contains-permutation interests sorted i moved there))) parcel party)
+    same_from_decides {P = is_declared parcel party interests ≡ true} (is_declared parcel party kept) (is_declared parcel party interests) (
+      declared_more kept interests (λ i there. Contains-permutation sorted interests i (IsPermutation-sym interests sorted moved)
+          (Contains-from_dedup same_interest sorted i (subst (λ xs. Contains xs i) thin there))) parcel party,
+      declared_more interests kept (λ i there. subst (λ xs. Contains xs i) (sym thin)
+          (Contains-dedup same_equivalence same_one sorted i (Contains-permutation interests sorted i moved there))) parcel party,
+    ) (λ e. e, λ e. e)

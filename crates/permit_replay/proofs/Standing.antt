@@ -1,8 +1,7 @@
 -- An entry that makes a history is taken.
-use Rattle.std.proofs.Common.{◌≡◌, ◌<◌, ◌≤◌, refl, ap, ◌∙◌, ℕ, Bool, true, false, [], ◌∷◌, Option, None, Some, inl, inr, arith}
-use Rattle.std.specs.Prelude.{◌⊎◌, IsTrue, nat_lt, if◌then◌else◌}
-use Rattle.std.proofs.lemmas.Bool.{eq-eqb, false≢true}
-use Rattle.std.proofs.lemmas.Bool.Decides.{nat_tests}
+use Rattle.std.proofs.Common.{◌≡◌, refl, ap, ◌∙◌, ℕ, Bool, true, [], ◌∷◌, Option, None, Some, inl, inr}
+use Rattle.std.specs.Prelude.{◌⊎◌, IsTrue, if◌then◌else◌}
+use Rattle.std.proofs.lemmas.Bool.{eq-eqb, false≢true, le-ltb, lt-ltb}
 use Rattle.permit_base.specs.declared.words.Edition.{Edition}
 use Rattle.permit_base.specs.declared.words.Edition.TheVariants.{First}
 use Rattle.permit_base.specs.declared.request.Request.{Request}
@@ -22,25 +21,19 @@ itself : (n : Option ℕ) → is_same n n ≡ true
 itself None = refl
 itself (Some m) = eq-eqb m m refl
 
-timely : (last day : ℕ) → last ≤ day → nat_lt day last ≡ false
-timely last day h = grind (arith, nat_tests)
-
 -- there is no reason against what was accepted
 pub accepted_stands : (h : History) (day caller : ℕ) (asked : Request) (number : Option ℕ) → IsAccepted h (numbered day caller asked number) asked
     → against_reply number (outcome_unjudged h day caller asked).reply ≡ None
 accepted_stands h day caller asked number may =
     let outcome : outcome_unjudged h day caller asked ≡ outcome_by_reason h (entry_of h day caller asked) None =
     ap (outcome_of_party h day caller asked) may.caller_there
-    ∙ ap (outcome_in_time h day caller asked) (timely (last_day h) day may.in_time)
+    ∙ ap (outcome_in_time h day caller asked) (le-ltb day (last_day h) may.in_time)
     ∙ ap (outcome_if_there h day caller asked) may.record_there
     ∙ ap (outcome_by_reason h (entry_of h day caller asked)) may.admitted in
     let same : is_same (number_made h asked) number ≡ true = ap (is_same (number_made h asked)) may.numbered ∙ itself (number_made h asked) in
     ap (λ (o : Outcome). against_reply number o.reply) outcome ∙ ap (λ (b : Bool). if b then None else Some why.Number) same
 
 -- ---- the other entries
-
-later_than_zero : (day : ℕ) → 0 < day → nat_lt 0 day ≡ true
-later_than_zero day h = grind (arith, nat_tests)
 
 again : (e : Edition) → e ≡ First → (against_upgrade e ≡ None) ⊎ (against_upgrade e ≡ Some why.FirstEdition)
 again e first = inr (ap against_upgrade first)
@@ -50,7 +43,7 @@ pub stands : (unsaid : Unsaid) (h : History) (day : ℕ) (done : Deed) → IsTru
 stands unsaid h day (deed.Begin tables) adds is = absurd (false≢true adds)
 stands unsaid h day (deed.RenewToken party digest) adds is = absurd (false≢true adds)
 stands unsaid [] day (deed.Found name digest) adds is =
-    inl (ap (λ (b : Bool). if b then None else Some why.NoFounding) (later_than_zero day is.0))
+    inl (ap (λ (b : Bool). if b then None else Some why.NoFounding) (lt-ltb 0 day is.0))
 stands unsaid [] day deed.Upgrade adds is = absurd is
 stands unsaid [] day (deed.Accepted caller act) adds is = absurd is
 stands unsaid (first ∷ []) day (deed.Found name digest) adds is = absurd is.0

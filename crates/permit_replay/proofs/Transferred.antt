@@ -1,16 +1,13 @@
 -- What is said of tables is said of those that are alike.
 use Rattle.std.proofs.Common.{◌≡◌, ℕ, ◌+◌, ◌==◌, Bool, true, false, cond, List, [], ◌∷◌, ◌++◌, map, filter, find, refl, sym, ◌∙◌, ap, subst, arith}
-use Rattle.std.specs.Prelude.{◌&&◌, ◌||◌, Option, None, Some, option_map, Result, Ok, Err, IfOk, OnOk, OnErr, IsPermutation}
+use Rattle.std.specs.Prelude.{◌&&◌, ◌||◌, Option, None, Some, Result, Ok, Err}
 use Rattle.std.specs.List.{list_any}
-use Rattle.permit_base.specs.declared.route.Route.{Route}
-use Rattle.permit_model.specs.Parcels.{Interest, Parcel}
+use Rattle.permit_model.specs.Parcels.{Interest}
 use Rattle.permit_base.specs.declared.refusal.Refusal.{Refusal}
 use Rattle.permit_model.specs.Renewal.{against_renewal, with_digest, with_renewed}
-use Rattle.permit_model.specs.Routes.{Found, found_by, found_row, is_found, owner_in, has_interest_in}
 use Rattle.permit_model.specs.Tables.{Desk, FileRow, Paper, Tables}
 use Rattle.permit_store.specs.Changes.{Fits, changed, closed_by, given_to, paper_of, papers_after, suits, suits_effect, suits_row, with_state}
-use Rattle.permit_store.specs.Frames.{StoreView, HasOneDesk, IsCommit, Reads}
-use Rattle.permit_store.specs.Handing.{AreFound, AreHanded, AreRising, found_by_any, is_found_by_any}
+use Rattle.permit_store.specs.Frames.{StoreView}
 use Rattle.permit_store.specs.Interests.{DeclareSame, is_declared}
 use Rattle.permit_store.specs.declared.change.Change.{Change}
 use Rattle.permit_store.specs.declared.change.Change.TheVariants.{NewParty, NewParcel, NewOwner, NewInterest, NewFile, NewRow}
@@ -19,51 +16,6 @@ use Rattle.permit_store.specs.declared.change.RowEffect.TheVariants as effect
 use Rattle.permit_store.specs.Renewing.{Renews}
 use Rattle.permit_store.specs.declared.store.StoreError.{StoreError}
 use Rattle.permit_replay.specs.Alike.{AreAlike, unordered}
-
--- ---- answers
-
-module _ {A E : Type 0} where
-  pub ok_more : (r : Result A E) (P Q : A → Type 0) → ((x : A) → P x → Q x) → IfOk r P → IfOk r Q
-  ok_more (Ok x) P Q more said = more x said
-  ok_more (Err e) P Q more said = tt
-
-  pub on_ok : (r : Result A E) (P Q : Type 0) → (P → Q) → OnOk r P → OnOk r Q
-  on_ok (Ok x) P Q more said = more said
-  on_ok (Err e) P Q more said = tt
-
-  pub on_err : (r : Result A E) (P Q : Type 0) → (P → Q) → OnErr r P → OnErr r Q
-  on_err (Ok x) P Q more said = tt
-  on_err (Err e) P Q more said = more said
-
--- an answer that is what the tables say
-pub said : {A B E : Type 0} (r : Result A E) (g : A → B) (x y : B) → x ≡ y → IfOk r (λ a. g a ≡ x) → IfOk r (λ a. g a ≡ y)
-said r g x y e is = ok_more r (λ a. g a ≡ x) (λ a. g a ≡ y) (λ a h. h ∙ e) is
-
--- ---- what is held
-
-one_desk : (s : StoreView) → HasOneDesk s → HasOneDesk (unordered s)
-one_desk s one = λ u v held other. sym held.2.desk ∙ one held.0 other.0 held.1 other.1 ∙ other.2.desk
-
-pub reads : {A E : Type 0} (sure : Type 0) (count : ℕ) (old new : StoreView) (r : Result A E) → Reads sure count old new r
-    → Reads sure count (unordered old) (unordered new) r
-reads sure count old new r read = record {
-  kept = λ u held. (held.0, read.kept held.0 held.1, held.2);
-  one = λ clean is. on_ok r (HasOneDesk new) (HasOneDesk (unordered new)) (one_desk new) (read.one clean is);
-  doubt = read.doubt;
-  failed = read.failed;
-  commits = read.commits;
-  handed = read.handed;
-}
-
-pub commits : {A E : Type 0} (old new : StoreView) (r : Result A E) → IsCommit old new r → IsCommit (unordered old) (unordered new) r
-commits old new r commit = record {
-  kept = λ u held. on_err r (new.holds held.0) ((unordered new).holds u) (λ h. (held.0, h, held.2)) (commit.kept held.0 held.1);
-  one = λ clean. on_ok r (HasOneDesk new) (HasOneDesk (unordered new)) (one_desk new) (commit.one clean);
-  doubt = commit.doubt;
-  failed = commit.failed;
-  commits = commit.commits;
-  handed = commit.handed;
-}
 
 -- ---- rows
 
@@ -84,35 +36,6 @@ module _ (t u : Tables) (same : AreAlike t u) where
       → list_any (λ p. (p.file == file) && open_notice p) t.papers ≡ list_any (λ p. (p.file == file) && open_notice p) u.papers
   notice_alike file open_notice =
       any_of_file file open_notice t.papers ∙ ap (list_any open_notice) (same.papers file) ∙ sym (any_of_file file open_notice u.papers)
-
-  row_alike : (caller : ℕ) (row : FileRow) → found_row t caller row ≡ found_row u caller row
-  row_alike caller row =
-      ap (λ (o : Option ℕ). record { row = row; owner = o; conflict = has_interest_in t row.state.parcel caller })
-      (ap (λ ps. option_map (λ (p : Parcel). p.owner) (find (λ p. p.id == row.state.parcel) ps)) same.parcels)
-      ∙ ap (λ (b : Bool). record { row = row; owner = owner_in u row.state.parcel; conflict = b }) (same.interests row.state.parcel caller)
-
-  rows_alike : (caller : ℕ) (rows : List FileRow) → map (found_row t caller) rows ≡ map (found_row u caller) rows
-  rows_alike caller [] = refl
-  rows_alike caller (row ∷ rows) =
-      ap (λ f. f ∷ map (found_row t caller) rows) (row_alike caller row) ∙ ap (λ fs. found_row u caller row ∷ fs) (rows_alike caller rows)
-
-  all_alike : (caller : ℕ) → map (found_row t caller) t.files ≡ map (found_row u caller) u.files
-  all_alike caller = rows_alike caller t.files ∙ ap (map (found_row u caller)) same.files
-
-  pub found_alike : (route : Route) (caller day : ℕ) (given : List Found) → AreFound t given (found_by route caller day t) → AreFound u given (found_by route caller day u)
-  found_alike route caller day given found =
-      let e : found_by route caller day t ≡ found_by route caller day u = ap (filter (is_found route caller day)) (all_alike caller) in
-      record {
-        same = subst (IsPermutation given) e found.same;
-        order = λ rising. found.order (subst AreRising (sym same.files) rising) ∙ e;
-      }
-
-  pub handed_alike : {E : Type 0} (r : Result Bool E) (route : Route) (caller day : ℕ) (given : List Found)
-      → AreHanded t r given (found_by route caller day t) → AreHanded u r given (found_by route caller day u)
-  handed_alike r route caller day given handed = (handed.0, handed.1, found_alike route caller day (given ++ handed.0) handed.2)
-
-  pub any_alike : (routes : List Route) (caller day : ℕ) → found_by_any routes caller day t ≡ found_by_any routes caller day u
-  any_alike routes caller day = ap (filter (is_found_by_any routes caller day)) (all_alike caller)
 
 -- ---- changes
 

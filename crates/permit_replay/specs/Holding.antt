@@ -38,10 +38,6 @@ abbrev pub IsBeginning : (PlainStore → StoreView) → Beginning → Unsaid →
 IsBeginning view beginning.Founding unsaid = unsaid.begun ≡ None
 IsBeginning view (beginning.Copy copy) unsaid = (begun : Begun) × (unsaid.begun ≡ Some begun) × IsCopyOf view copy begun
 
--- what a text may begin with is as it was
-abbrev pub StillBegins : (PlainStore → StoreView) → Beginning → Beginning → Type 0
-StillBegins view old new = (unsaid : Unsaid) → IsBeginning view old unsaid → IsBeginning view new unsaid
-
 -- nothing, the founding alone, or a history whose tables are held
 abbrev pub Holds : (PlainStore → StoreView) → Unsaid → Replayed → History → Type 0
 Holds view unsaid (replayed.Nothing first) h = (h ≡ []) × IsBeginning view first unsaid

@@ -12,4 +12,5 @@ pub mod Numbered
 pub mod Prefixes
 pub mod Telling
 pub mod Opening
+pub mod Placing
 pub mod Bringing

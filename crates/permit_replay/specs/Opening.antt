@@ -1,5 +1,5 @@
 -- What a text says of a store's tables.
-use Rattle.std.specs.Prelude.{◌≡◌, ℕ, List, [], ◌∷◌, ◌++◌, length}
+use Rattle.std.specs.Prelude.{◌≡◌, ℕ, List, length}
 use Rattle.permit_model.specs.Machine.{IsHistory}
 use Rattle.permit_model.specs.Tables.{Tables, tables}
 use Rattle.permit_replay.specs.Alike.{AreAlike}
@@ -8,8 +8,6 @@ use Rattle.permit_replay.specs.declared.alike.differing.Difference.{Difference}
 use Rattle.permit_history.specs.declared.entry.Entry.{Entry}
 use Rattle.permit_history.specs.LineData.{text_of}
 use Rattle.permit_replay.specs.Histories.{Unsaid, Completes, history_by}
-use Rattle.permit_replay.specs.declared.opening.compare.Compared.{Compared}
-use Rattle.permit_replay.specs.declared.opening.compare.Compared.TheVariants as compared
 use Rattle.permit_replay.specs.Prefixes.{IsTextOf}
 
 -- the entries give a history, and its tables are these
@@ -18,31 +16,10 @@ TellTables begins entries t =
     (unsaid : Unsaid) → Completes begins unsaid entries
     → IsHistory (history_by unsaid entries) × AreAlike (tables (history_by unsaid entries)) t
 
--- the tables of the history that the entries give are others
-abbrev pub TellOthers : (Unsaid → Type 0) → List Entry → Tables → Type 0
-TellOthers begins entries t = (unsaid : Unsaid) → Completes begins unsaid entries → AreAlike (tables (history_by unsaid entries)) t → ⊥
-
 -- the tables are those that the whole lines of the text give, and these have so many bytes
 abbrev pub IsAlike : (Unsaid → Type 0) → List ℕ → Tables → ℕ → Type 0
 IsAlike begins bytes t size =
     (entries : List Entry) × (left : List ℕ) × IsTextOf begins bytes entries left × TellTables begins entries t × (size ≡ length (text_of entries))
-
--- the tables are not those, but those that the lines before the last give: these are a text by themselves, of so many bytes
-abbrev pub HasOneMore : (Unsaid → Type 0) → List ℕ → Tables → ℕ → Type 0
-HasOneMore begins bytes t size =
-    (entries : List Entry) × (last : Entry) × (left : List ℕ) × IsTextOf begins bytes (entries ++ last ∷ []) left
-    × TellOthers begins (entries ++ last ∷ []) t × IsTextOf begins (text_of entries) entries [] × TellTables begins entries t × (size ≡ length (text_of entries))
-
--- the tables are neither
-abbrev pub IsOther : (Unsaid → Type 0) → List ℕ → Tables → Type 0
-IsOther begins bytes t =
-    (entries : List Entry) × (last : Entry) × (left : List ℕ) × IsTextOf begins bytes (entries ++ last ∷ []) left
-    × TellOthers begins (entries ++ last ∷ []) t × TellOthers begins entries t
-
-abbrev pub Says : (Unsaid → Type 0) → List ℕ → Tables → Compared → Type 0
-Says begins bytes t (compared.Alike size) = IsAlike begins bytes t size
-Says begins bytes t (compared.OneMore size) = HasOneMore begins bytes t size
-Says begins bytes t compared.Differs = IsOther begins bytes t
 
 -- at this place they differ first from those that the whole lines of the text give
 abbrev pub DiffersFirst : (Unsaid → Type 0) → List ℕ → Tables → Difference → Type 0

@@ -1,5 +1,6 @@
 -- What the first lines of a text give.
-use Rattle.std.specs.Prelude.{◌≡◌, ◌<◌, ◌≤◌, ℕ, IsTrue, List, [], length, None}
+use Rattle.std.specs.Prelude.{◌≡◌, ◌+◌, ℕ, IsTrue, List, [], ◌∷◌, ◌++◌, length, Option, None, Some}
+use Rattle.std.specs.Io.BufRead.{drop_through}
 use Rattle.std.specs.List.{list_all}
 use Rattle.permit_store.specs.declared.plain.PlainStore.{PlainStore}
 use Rattle.permit_store.specs.Frames.{StoreView}
@@ -8,25 +9,38 @@ use Rattle.permit_history.specs.LineData.{text_of}
 use Rattle.permit_history.specs.Text.{next_line}
 use Rattle.permit_history.specs.Within.{is_within}
 use Rattle.permit_replay.specs.Histories.{Unsaid, Completes}
-use Rattle.permit_replay.specs.Texts.{HasReplayed, IsShort}
-use Rattle.permit_replay.specs.declared.opening.told.Told.{Told}
+use Rattle.permit_replay.specs.Texts.{HasReplayed}
+use Rattle.permit_replay.specs.declared.replayed.Replayed.{Replayed}
+use Rattle.permit_replay.specs.declared.replayed.Replayed.TheVariants as replayed
+use Rattle.permit_replay.specs.declared.text.Progress.{Progress}
+use Rattle.permit_replay.specs.declared.text.Progress.TheVariants as progress
 use Rattle.permit_replay.specs.Prefixes.{AreNext}
 
--- the entries are the first of the text, and they were replayed and counted
-pub record HasTold (view : PlainStore → StoreView) (begins : Unsaid → Type 0) (bytes : List ℕ) (entries : List Entry) (left : List ℕ) (told : Told) : Type 0 where
-  pub as_far : HasReplayed view begins bytes entries left told.replayed
+-- The entries are the first of the text, and they were replayed.
+pub record HasTold (view : PlainStore → StoreView) (begins : Unsaid → Type 0) (bytes : List ℕ) (entries : List Entry) (left : List ℕ) (replayed : Replayed) : Type 0 where
+  pub as_far : HasReplayed view begins bytes entries left replayed
   pub next : (unsaid : Unsaid) → Completes begins unsaid entries → AreNext unsaid [] entries
   pub within : IsTrue (list_all is_within entries)
-  pub lines : told.lines ≡ length entries
-  pub none : told.lines ≡ 0 → IsShort told.replayed
-  pub size : told.length ≡ length (text_of entries)
 
--- the text was replayed to its end, or so many of its lines, which are the most
-abbrev pub IsToldUpTo : (PlainStore → StoreView) → (Unsaid → Type 0) → ℕ → List ℕ → Told → Type 0
-IsToldUpTo view begins most bytes told =
-    (entries : List Entry) × (left : List ℕ) × HasTold view begins bytes entries left told × (told.lines ≤ most) × (told.lines < most → next_line left ≡ None)
+-- So much was replayed before the line of this number: the entries of the lines before it. This is left of the text.
+pub record IsAtLine (view : PlainStore → StoreView) (begins : Unsaid → Type 0) (bytes : List ℕ) (remaining : Option (List ℕ)) (line : ℕ) (replayed : Replayed) : Type 0 where
+  pub entries : List Entry
+  pub left : List ℕ
+  pub is_left : remaining ≡ Some left
+  pub counted : line ≡ length entries + 1
+  pub told : HasTold view begins bytes entries left replayed
 
--- the text was replayed to its end, and there are tables
-abbrev pub IsToldWhole : (PlainStore → StoreView) → (Unsaid → Type 0) → List ℕ → Told → Type 0
-IsToldWhole view begins bytes told =
-    (entries : List Entry) × (left : List ℕ) × HasTold view begins bytes entries left told × (next_line left ≡ None) × (IsShort told.replayed → ⊥)
+-- One more entry was replayed, whose line has so many bytes with its LF, and this is left of the text. Or no line is left.
+abbrev pub GoesOn : (PlainStore → StoreView) → (Unsaid → Type 0) → List ℕ → List Entry → List ℕ → Option (List ℕ) → ℕ → Progress → Type 0
+GoesOn view begins bytes entries left remaining size (progress.Line more) =
+    (entry : Entry) × HasTold view begins bytes (entries ++ entry ∷ []) (drop_through 10 left) more
+    × (remaining ≡ Some (drop_through 10 left)) × (length (text_of (entries ++ entry ∷ [])) ≡ length (text_of entries) + size)
+GoesOn view begins bytes entries left remaining size (progress.End store) =
+    HasTold view begins bytes entries left (replayed.Open store) × (next_line left ≡ None)
+
+-- The text was replayed to its end.
+pub record IsToldWhole (view : PlainStore → StoreView) (begins : Unsaid → Type 0) (bytes : List ℕ) (store : PlainStore) : Type 0 where
+  pub entries : List Entry
+  pub left : List ℕ
+  pub told : HasTold view begins bytes entries left (replayed.Open store)
+  pub end : next_line left ≡ None

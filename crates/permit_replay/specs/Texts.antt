@@ -1,5 +1,5 @@
 -- What replaying a text answers.
-use Rattle.std.specs.Prelude.{◌≡◌, ◌≤◌, ◌^◌, ℕ, ◌+◌, List, [], ◌∷◌, ◌++◌, length, None, Some, option_map, Result, Ok, Err, ⊤}
+use Rattle.std.specs.Prelude.{◌≡◌, ◌≤◌, ◌^◌, ℕ, ◌+◌, List, [], ◌∷◌, ◌++◌, length, None, Some, option_map, Ok, Err, ⊤}
 use Rattle.permit_store.specs.declared.plain.PlainStore.{PlainStore}
 use Rattle.permit_store.specs.Frames.{StoreView}
 use Rattle.permit_history.specs.declared.entry.Entry.{Entry}
@@ -61,9 +61,3 @@ StopsAt view begins bytes replay_fault.Short =
 StopsAt view begins bytes replay_fault.Endless =
     (entries : List Entry) × (left : List ℕ) × (as_far : Replayed) × HasReplayed view begins bytes entries left as_far × (2 ^ 64 ≤ length entries + 2)
 StopsAt view begins bytes (replay_fault.Source error) = ⊤
-
--- the tables where there are any, and otherwise that the text is short
-abbrev pub EndsAs : Replayed → Result PlainStore ReplayFault → Type 0
-EndsAs (replayed.Nothing first) result = result ≡ Err replay_fault.Short
-EndsAs (replayed.Founded founder) result = result ≡ Err replay_fault.Short
-EndsAs (replayed.Open store) result = result ≡ Ok store

@@ -2,5 +2,5 @@
 
 pub mod compare;
 pub mod differing;
-mod rows;
+pub(crate) mod rows;
 pub mod unordered;

@@ -11,6 +11,7 @@ pub mod beginning;
 pub mod fault;
 pub mod following;
 pub mod laws;
+mod line;
 pub mod opening;
 mod recorded;
 pub mod replayed;

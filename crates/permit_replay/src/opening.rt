@@ -1,12 +1,11 @@
 //! What the text of a history says of a store's tables.
 //!
-//! A crash leaves the text at the tables' history or one whole line further, perhaps with a part of a line at the end. `compare`
-//! says which it is, or that it is neither, and `difference` at which place they differ first. `bring` brings a store further that
-//! has the tables of the first lines of the text, by commits of many lines.
+//! The text is a write-ahead log: a command's line is appended and synced before the command is committed, so a store has the
+//! tables of the whole text or of a prefix of it. `find_place` says of which, and `difference` at which place the store's tables and
+//! the text's differ first. `bring` redoes the rest on the store, by commits of many lines.
 
 pub mod bringing;
-pub mod compare;
 pub mod differing;
 pub mod fault;
-mod line;
-mod told;
+pub mod placing;
+mod redoing;

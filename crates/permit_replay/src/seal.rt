@@ -2,10 +2,7 @@
 
 ghost use Rattle.std.specs.Prelude.{◌≡◌, ◌≤◌, ℕ, List, IfOk, IsTrue, OnErr, OnOk};
 ghost use Rattle.std.specs.List.{flat_map};
-ghost use Rattle.sha2.specs.Hashers.{Holds256};
-ghost use Rattle.permit_base.specs.Digests.{digest_of};
 ghost use Rattle.permit_base.specs.Limits.{most_records};
-ghost use Rattle.permit_base.specs.Texts.{is_digest};
 ghost use Rattle.permit_model.specs.Sound.{IsSoundTables, has_file, has_parcel, has_party};
 ghost use Rattle.permit_store.specs.Frames.{OverTables};
 ghost use Rattle.permit_replay.specs.Comparing.{Looks, NoneFailed, OneFailed};
@@ -22,6 +19,7 @@ mod rows;
 use crate::seal::interests::in_order;
 use crate::seal::rows::{put_desk, put_file_with_papers, put_interest, put_parcel, put_party};
 use permit_base::values::{Digest, FileId, ParcelId, PartyId};
+use permit_history::digest_of_hash;
 use permit_store::rows::Interest;
 use permit_store::store::{Got, Store, StoreError};
 use sha2::{Digest as _, Sha256};
@@ -140,32 +138,6 @@ fn put_tables<S: Store>(store: &mut S, hash: &mut Sha256) -> Got<()>
     Ok(())
 }
 
-/// The digest of these letters.
-fn digest_of_letters(letters: &[u8]) -> Digest
-    requires { IsTrue (is_digest letters.now) }
-    ensures { result ≡ letters.now }
-{
-    match str::from_utf8(letters) {
-        Ok(text) => match Digest::read(text) {
-            Some(digest) => digest,
-            None => unreachable!(),
-        },
-        Err(_) => unreachable!(),
-    }
-}
-
-/// The digest of what the hash is of.
-fn finished(hash: Sha256) -> Digest
-    ensures { (m : List ℕ) → Holds256 hash m → result ≡ digest_of m }
-{
-    let bytes = hash.finalize();
-    let mut letters = [0u8; 64];
-    match hex::encode_to_slice(bytes, &mut letters) {
-        Ok(()) => digest_of_letters(&letters),
-        Err(_) => unreachable!(),
-    }
-}
-
 /// The seal of a store's tables: the SHA-256 of their text, in lower-case hexadecimal. Tables that no call of a store
 /// distinguishes have one seal. The text has a line for each row: the word of its table, each column after a TAB, and LF.
 ///
@@ -189,5 +161,5 @@ pub fn seal<S: Store>(store: &mut S) -> Got<Digest>
 {
     let mut hash = Sha256::new();
     put_tables(store, &mut hash)?;
-    Ok(finished(hash))
+    Ok(digest_of_hash(hash))
 }

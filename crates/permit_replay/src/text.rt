@@ -1,66 +1,74 @@
 //! Replaying a text.
 
-ghost use Rattle.std.specs.Prelude.{◌≡◌, ℕ, IfOk, IfErr, IfSome};
-ghost use Rattle.permit_model.specs.History.{History};
-ghost use Rattle.permit_replay.specs.Histories.{HasToken, Unsaid};
-ghost use Rattle.permit_replay.specs.Holding.{Holds, IsBeginning, StillBegins, Takes};
-ghost use Rattle.permit_replay.specs.Texts.{EndsAs, IsReplayed, StopsAt};
+ghost use Rattle.std.specs.Prelude.{ℕ, List, vec_len, IfErr, IfOk, IfSome};
+ghost use Rattle.permit_replay.specs.Holding.{IsBeginning};
+ghost use Rattle.permit_replay.specs.Telling.{GoesOn, IsAtLine, IsToldWhole};
+ghost use Rattle.permit_replay.specs.Texts.{IsReplayed, StopsAt};
+ghost use Rattle.permit_replay.specs.declared.beginning.Beginning.{Beginning as TheBeginning};
 
 use crate::beginning::Beginning;
-use crate::fault::{ReplayFault, Why};
+use crate::fault::ReplayFault;
+use crate::line::next_entry;
 use crate::replayed::Replayed;
-use permit_history::entry::Entry;
-use permit_history::fault::LineFault;
-use permit_history::next_entry;
 use permit_history::text::TextFault;
 use permit_store::plain::PlainStore;
 use permit_store::store::Store;
 use std::alloc::Global;
 use std::io::BufRead;
 
-/// Takes an entry that is not asked for again.
-fn take(replayed: Replayed, alloc: Global, entry: Entry) -> Result<Replayed, Why>
-    ensures { (unsaid : Unsaid) (h : History) → Holds ⟦<PlainStore as Store>⟧.view unsaid replayed h → HasToken unsaid entry.deed
-        → Takes ⟦<PlainStore as Store>⟧.view unsaid h entry.day entry.deed result }
-{
-    replayed.take(alloc, &entry)
+/// How a text goes on after the lines that were replayed.
+#[derive(Drop)]
+pub(crate) enum Progress {
+    /// By one more line, which was replayed too.
+    Line(Replayed),
+    /// It ends, and its lines give these tables.
+    End(PlainStore),
 }
 
-/// What a text that ends here answers.
-fn finish(replayed: Replayed) -> Result<PlainStore, ReplayFault>
-    ensures { EndsAs replayed result }
+/// Replays the next line of a text, which has this number. After it `room` has the bytes of the line, with the LF.
+pub(crate) fn replay_line<R: BufRead>(
+    alloc: Global,
+    replayed: Replayed,
+    line: u64,
+    source: &mut R,
+    room: &mut Vec<u8>,
+) -> Result<Progress, ReplayFault>
+    ensures next { (beginning : TheBeginning) (bytes : List ℕ)
+        → (at : IsAtLine ⟦<PlainStore as Store>⟧.view (IsBeginning ⟦<PlainStore as Store>⟧.view beginning) bytes (R.remaining source.old) line replayed)
+        → IfOk result (GoesOn ⟦<PlainStore as Store>⟧.view (IsBeginning ⟦<PlainStore as Store>⟧.view beginning) bytes at.entries at.left (R.remaining source.new) (vec_len room.new)) }
+    ensures stopped { (beginning : TheBeginning) (bytes : List ℕ)
+        → IsAtLine ⟦<PlainStore as Store>⟧.view (IsBeginning ⟦<PlainStore as Store>⟧.view beginning) bytes (R.remaining source.old) line replayed
+        → IfErr result (StopsAt ⟦<PlainStore as Store>⟧.view (IsBeginning ⟦<PlainStore as Store>⟧.view beginning) bytes) }
 {
-    match replayed {
-        Replayed::Open(store) => Ok(store),
-        Replayed::Nothing(_) | Replayed::Founded(_) => Err(ReplayFault::Short),
+    match next_entry(alloc, source, room) {
+        Ok(Some(entry)) => match replayed.take(alloc, &entry) {
+            Ok(next) => Ok(Progress::Line(next)),
+            Err(why) => Err(ReplayFault::Entry { line, why }),
+        },
+        Ok(None) => match replayed {
+            Replayed::Open(store) => Ok(Progress::End(store)),
+            Replayed::Nothing(_) | Replayed::Founded(_) => Err(ReplayFault::Short),
+        },
+        Err(TextFault::Line(fault)) => Err(ReplayFault::Line { line, fault }),
+        Err(TextFault::Source(error)) => Err(ReplayFault::Source(error)),
     }
 }
 
-/// Replays a text, with room for its lines.
-fn replay_in<R: BufRead>(
+/// Replays a text to its end.
+pub(crate) fn replay_whole<R: BufRead>(
     alloc: Global,
-    beginning: &mut Beginning,
+    beginning: Beginning,
     source: &mut R,
-    room: &mut Vec<u8>,
 ) -> Result<PlainStore, ReplayFault>
-    ensures replayed { IfSome (R.remaining source.old) (λ bytes. IfOk result (IsReplayed ⟦<PlainStore as Store>⟧.view (IsBeginning ⟦<PlainStore as Store>⟧.view beginning.old) bytes)) }
-    ensures stopped { IfSome (R.remaining source.old) (λ bytes. IfErr result (StopsAt ⟦<PlainStore as Store>⟧.view (IsBeginning ⟦<PlainStore as Store>⟧.view beginning.old) bytes)) }
-    ensures still { StillBegins ⟦<PlainStore as Store>⟧.view beginning.old beginning.new }
+    ensures told { IfSome (R.remaining source.old) (λ bytes. IfOk result (IsToldWhole ⟦<PlainStore as Store>⟧.view (IsBeginning ⟦<PlainStore as Store>⟧.view beginning) bytes)) }
+    ensures stopped { IfSome (R.remaining source.old) (λ bytes. IfErr result (StopsAt ⟦<PlainStore as Store>⟧.view (IsBeginning ⟦<PlainStore as Store>⟧.view beginning) bytes)) }
 {
-    let Ok(first) = beginning.again(alloc) else {
-        let fault = LineFault::Memory;
-        return Err(ReplayFault::Line { line: 1, fault });
-    };
-    let mut replayed = Replayed::Nothing(first);
+    let mut room = Vec::new(alloc);
+    let mut replayed = Replayed::Nothing(beginning);
     for line in 1..u64::MAX {
-        match next_entry(alloc, source, room) {
-            Ok(Some(entry)) => match take(replayed, alloc, entry) {
-                Ok(next) => replayed = next,
-                Err(why) => return Err(ReplayFault::Entry { line, why }),
-            },
-            Ok(None) => return finish(replayed),
-            Err(TextFault::Line(fault)) => return Err(ReplayFault::Line { line, fault }),
-            Err(TextFault::Source(error)) => return Err(ReplayFault::Source(error)),
+        match replay_line(alloc, replayed, line, source, &mut room)? {
+            Progress::Line(next) => replayed = next,
+            Progress::End(store) => return Ok(store),
         }
     }
     Err(ReplayFault::Endless)
@@ -72,28 +80,25 @@ fn replay_in<R: BufRead>(
 /// It asks no policy: that of the day isn't known. So it takes each command that some policy could have allowed, and the tables
 /// are those of the machine under a policy that allows everything. It keeps the tables and one line.
 ///
-/// What the text may begin with is only read: where there are tables, they are copied. Where memory is refused for that, the
-/// fault is one of the first line.
+/// Where the text begins with a copy of an office's tables, they become its tables.
 ///
 /// # Examples
 ///
 /// ```
 /// let text = format!(in alloc; "{FOUND}\n{UPGRADE}\n{ADD_CLERK}\n")?;
-/// let (mut source, mut beginning) = (text.as_bytes(), Beginning::Founding);
-/// let Ok(mut store) = replay(alloc, &mut beginning, &mut source) else {
+/// let mut source = text.as_bytes();
+/// let Ok(mut store) = replay(alloc, Beginning::Founding, &mut source) else {
 ///     return Err(Fail::new("no tables"));
 /// };
 /// assert!(rt; store.desk()?.parties == 2);
 /// ```
 pub fn replay<R: BufRead>(
     alloc: Global,
-    beginning: &mut Beginning,
+    beginning: Beginning,
     source: &mut R,
 ) -> Result<PlainStore, ReplayFault>
-    ensures replayed { IfSome (R.remaining source.old) (λ bytes. IfOk result (IsReplayed ⟦<PlainStore as Store>⟧.view (IsBeginning ⟦<PlainStore as Store>⟧.view beginning.old) bytes)) }
-    ensures stopped { IfSome (R.remaining source.old) (λ bytes. IfErr result (StopsAt ⟦<PlainStore as Store>⟧.view (IsBeginning ⟦<PlainStore as Store>⟧.view beginning.old) bytes)) }
-    ensures still { StillBegins ⟦<PlainStore as Store>⟧.view beginning.old beginning.new }
+    ensures replayed { IfSome (R.remaining source.old) (λ bytes. IfOk result (IsReplayed ⟦<PlainStore as Store>⟧.view (IsBeginning ⟦<PlainStore as Store>⟧.view beginning) bytes)) }
+    ensures stopped { IfSome (R.remaining source.old) (λ bytes. IfErr result (StopsAt ⟦<PlainStore as Store>⟧.view (IsBeginning ⟦<PlainStore as Store>⟧.view beginning) bytes)) }
 {
-    let mut room = Vec::new(alloc);
-    replay_in(alloc, beginning, source, &mut room)
+    replay_whole(alloc, beginning, source)
 }

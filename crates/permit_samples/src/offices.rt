@@ -3,6 +3,7 @@
 use crate::ask::TOKENS;
 use crate::makers::{day, digest_of, text};
 use crate::standard::POLICY;
+use permit_office::log::NoLog;
 use permit_office::office::Office;
 use permit_policy::text::read_policy;
 use permit_store::founder::Founder;
@@ -26,9 +27,9 @@ pub fn office_over<S: Store + Drop>(
     store: S,
     policy: &str,
 ) -> Result<Office<S>, Fail> {
-    match Office::open(store, read_policy(alloc, policy)?) {
+    match Office::open(store, read_policy(alloc, policy)?, NoLog) {
         Ok(office) => Ok(office),
-        Err((_, _)) => Err(Fail::new("no office")),
+        Err(_) => Err(Fail::new("no office")),
     }
 }
 

@@ -4,8 +4,9 @@ ghost use Rattle.std.specs.Prelude.{◌≡◌, ◌⊎◌, All, IfOk, IfErr, leng
 ghost use Rattle.std.specs.List.{list_any};
 ghost use Rattle.std.specs.Io.KnownBytes.{Appends};
 ghost use Rattle.permit_base.specs.declared.request.Asked.{Asked};
+ghost use Rattle.permit_wire.specs.Serving.{StepsOn};
 ghost use Rattle.permit_wire.specs.declared.service.Dated.{Dated};
-ghost use Rattle.permit_hall.specs.Runs.{Entry};
+ghost use Rattle.permit_hall.specs.Runs.{Entry, Runs};
 ghost use Rattle.permit_hall.specs.OneHistory.{OneHistory};
 ghost use Rattle.permit_hall.specs.OneRun.{OneRun};
 ghost use Rattle.permit_subcommands.specs.Failures.{IsUnheard};
@@ -19,6 +20,7 @@ use crate::pace::{AnswerWriter, RequestReader};
 use permit_args::plan::ServeWords;
 use permit_base::values::Day;
 use permit_hall::doors::{Door, DoorEnd, DoorsEnd, run_doors};
+use permit_office::log::Log;
 use permit_office::office::Office;
 use permit_store::store::Store;
 use permit_subcommands::failure::Failure;
@@ -169,24 +171,27 @@ where
     }
 }
 
-/// Serves an office so, as `serve_service` does any service: what its clients asked is one history of it.
-pub fn serve<S, T, R, O>(
+/// Serves an office so, with or without a history, as `serve_service` does any service: what its clients asked is one
+/// history of it, and each request was one step of it, with the machine's reply at its place and that step's day.
+pub fn serve<S, L, T, R, O>(
     rt: &HostRuntime,
     workers: R,
-    office: Office<S>,
+    office: Office<S, L>,
     words: &ServeWords<'_>,
     today: &mut T,
     shut: &Flag,
     out: &mut O,
-) -> (Office<S>, Result<Ends<R>, Failure>)
+) -> (Office<S, L>, Result<Ends<R>, Failure>)
 where
     S: Store + Drop,
+    L: Log + Drop,
     T: FnMut() -> Day,
     R: Threads + Wait + Copy + Drop + Send + 'static,
     O: Write,
     requires { T.IsAlwaysCallable today.old }
     ensures run { IfOk result.1 (λ ends. (served : List (Entry Asked Dated))
-        × OneHistory S.view T.step words.now.workers office result.0 today.old today.new served
+        × OneHistory S.view L.Log T.step words.now.workers office result.0 today.old today.new served
+        × Runs (StepsOn S.view L.Log) office served result.0
         × HaveEnded (⟦<RequestReader<HostRuntime> as Read>⟧.remaining) (⟦<AnswerWriter<HostRuntime> as Write>⟧.contents)
         (⟦<Connections<HostRuntime, R> as Door>⟧.gave) (⟦<Connections<HostRuntime, R> as Door>⟧.spent) words.now.workers words.now.connections
         (O.contents out.old) (O.contents out.new) ends.items served) }

@@ -30,7 +30,7 @@ use Rattle.permit_sql_rows.specs.Schema.{IsOffice, key_column, int_column, text_
 use Rattle.permit_sql_rows.specs.Rows.{int, party_row, parcel_row, shown_party, shown_parcel}
 use Rattle.permit_sql_rows.specs.Typed.{firsts, IsObject, IsParty, IsParcel}
 use Rattle.permit_sql.specs.Found.{TookTable, TakesNumbered, TakesInterest, RefusesNumbered, HasNumbered, HasParties, HasParcels}
-use Rattle.permit_sql.specs.declared.check.Numbered.{Numbered}
+use Rattle.permit_sql.specs.declared.typed.Numbered.{Numbered}
 use Rattle.permit_sql.specs.declared.texts.TheConstants.{EACH_PARTY, EACH_PARCEL}
 use Rattle.permit_sql_statements.proofs.Lookups.{plain_query, text_is, one_test}
 use Rattle.permit_sql_statements.proofs.QueryTexts.{columns_of}

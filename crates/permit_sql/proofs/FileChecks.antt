@@ -31,10 +31,10 @@ use Rattle.permit_sql_rows.specs.Typed.{firsts, IsInterest, IsPaper}
 use Rattle.permit_sql.specs.Taken.{TookAll}
 use Rattle.permit_sql.specs.Found.{TookTable, TakesFile, TakesInterest, TakesPaper, TakesRowid, RefusesFile, RefusesInterest, RefusesPaper, RefusesRowid}
 use Rattle.permit_sql.specs.Found.{IsLater, IsNumbered, IsRising, IsGoodFile, IsApart, counted_in, HasFiles, HasInterests, HasPapers}
-use Rattle.permit_sql.specs.declared.check.Interests.{Interests}
-use Rattle.permit_sql.specs.declared.check_files.Files.{Files}
-use Rattle.permit_sql.specs.declared.check_files.Papers.{Papers}
-use Rattle.permit_sql.specs.declared.check_files.Rowids.{Rowids}
+use Rattle.permit_sql.specs.declared.typed.Interests.{Interests}
+use Rattle.permit_sql.specs.declared.typed_files.Files.{Files}
+use Rattle.permit_sql.specs.declared.typed_files.Papers.{Papers}
+use Rattle.permit_sql.specs.declared.typed_files.Rowids.{Rowids}
 use Rattle.permit_sql.specs.declared.texts.TheConstants.{EACH_INTEREST, EACH_FILE, EACH_PAPER, EACH_ROWID}
 use Rattle.permit_sql_statements.proofs.Wholes.{whole_shown}
 use Rattle.permit_sql.proofs.Offices.{laid, rule_of}

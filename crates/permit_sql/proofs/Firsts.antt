@@ -16,9 +16,9 @@ use Rattle.permit_sql.specs.Taken.{TookRows}
 use Rattle.permit_sql.specs.Found.{AreTyped, IsGoodFile}
 use Rattle.permit_sql.specs.First.{or_else, first_in, of_parcel, of_interest, of_file, IsFirstInterest, Passes, Names}
 use Rattle.permit_sql.specs.declared.fault.Fault.{Fault}
-use Rattle.permit_sql.specs.declared.unsound.Owned.{Owned}
-use Rattle.permit_sql.specs.declared.unsound.Declared.{Declared}
-use Rattle.permit_sql.specs.declared.unsound.Tested.{Tested}
+use Rattle.permit_sql.specs.declared.first_unsound.Owned.{Owned}
+use Rattle.permit_sql.specs.declared.first_unsound.Declared.{Declared}
+use Rattle.permit_sql.specs.declared.first_unsound.Tested.{Tested}
 use Rattle.permit_sql.specs.declared.texts.TheConstants.{EACH_PARCEL, EACH_INTEREST, EACH_FILE}
 use Rattle.permit_sql.proofs.WholeMeanings.{each_parcel_text, each_interest_text, each_file_text}
 use Rattle.permit_sql.proofs.Answered.{parcels_shown, files_shown}

@@ -23,6 +23,8 @@ mod SameOrder
 mod FilesFilled
 mod Passing
 mod SoundUpgrade
+mod Upgrading
+mod Refusing
 mod Followed
 mod Naming
 mod PapersNamed
@@ -32,4 +34,5 @@ mod Firsts
 mod Turns
 pub mod SoundRenewal
 pub mod Renewing
+mod TokenRenewal
 mod Stepping

@@ -29,7 +29,7 @@ use Rattle.permit_sql.specs.declared.fault.FileRule.TheVariants as file
 use Rattle.permit_sql.specs.declared.fault.PaperRule.{PaperRule}
 use Rattle.permit_sql.specs.declared.fault.PaperRule.TheVariants as paper
 use Rattle.permit_sql.specs.declared.tally.Tally.{Tally}
-use Rattle.permit_sql.specs.declared.unsound_papers.Read.{Read}
+use Rattle.permit_sql.specs.declared.first_unsound_paper.Read.{Read}
 use Rattle.permit_sql.specs.declared.texts.TheConstants.{EACH_PAPER}
 use Rattle.permit_sql.proofs.WholeMeanings.{each_paper_text}
 use Rattle.permit_sql.proofs.PapersAnswered.{papers_shown}

@@ -23,11 +23,11 @@ use Rattle.permit_sql_rows.specs.Kept.{KeepsUnder, IsNamed}
 use Rattle.permit_sql_rows.specs.Typed.{IsParty, IsParcel, IsInterest, IsFile, IsPaper}
 use Rattle.permit_sql.specs.Taken.{TookAll, TookRows}
 use Rattle.permit_sql.specs.Found.{IsNumbered, IsRising, IsGoodFile, counted_in, AreTyped}
-use Rattle.permit_sql.specs.declared.check.Numbered.{Numbered}
-use Rattle.permit_sql.specs.declared.check.Interests.{Interests}
-use Rattle.permit_sql.specs.declared.check_files.Files.{Files}
-use Rattle.permit_sql.specs.declared.check_files.Papers.{Papers}
-use Rattle.permit_sql.specs.declared.check_files.Rowids.{Rowids}
+use Rattle.permit_sql.specs.declared.typed.Numbered.{Numbered}
+use Rattle.permit_sql.specs.declared.typed.Interests.{Interests}
+use Rattle.permit_sql.specs.declared.typed_files.Files.{Files}
+use Rattle.permit_sql.specs.declared.typed_files.Papers.{Papers}
+use Rattle.permit_sql.specs.declared.typed_files.Rowids.{Rowids}
 use Rattle.permit_sql.specs.declared.texts.TheConstants.{EACH_PARTY, EACH_PARCEL, EACH_INTEREST, EACH_FILE, EACH_PAPER, EACH_ROWID}
 use Rattle.permit_sql.proofs.WholeMeanings.{IsText, IsTextIn, each_party_text, each_parcel_text, each_interest_text, each_file_text, each_paper_text, each_rowid_text}
 use Rattle.permit_sql.proofs.Checks.{numbered_took, party_took, parcel_took}

@@ -1,6 +1,6 @@
 -- What is looked up before a party's token is renewed, and what a renewal leaves of typed tables.
-use Rattle.std.proofs.Common.{◌≡◌, ◌⊎◌, inl, inr, ℕ, suc, ◌==◌, Bool, true, false, cond, not, List, [], ◌∷◌, map, filter, find, length, None, Some, Result, Ok, Err, OnOk, refl, sym, ap, subst, ◌∙◌, arith}
-use Rattle.std.specs.Prelude.{is_some, bytes_eq, IsTrue, IfErr, IsErr, Option, option_map, if◌then◌else◌}
+use Rattle.std.proofs.Common.{◌≡◌, ℕ, suc, ◌==◌, Bool, true, false, cond, not, List, [], ◌∷◌, map, filter, find, length, None, Some, Result, Ok, Err, refl, sym, ap, subst, ◌∙◌, arith}
+use Rattle.std.specs.Prelude.{is_some, bytes_eq, IsTrue, IsErr, Option, option_map, if◌then◌else◌}
 use Rattle.std.specs.List.{AllByRecursion}
 use Rattle.std.proofs.lemmas.Bool.Decides.{nat_tests}
 use Rattle.std.proofs.lemmas.List.{length-map}
@@ -26,7 +26,6 @@ use Rattle.permit_model.specs.Tables.{Tables, tables}
 use Rattle.permit_model.specs.Renewal.{renewed, with_digest, with_renewed, against_renewal}
 use Rattle.permit_model.specs.Sound.{IsSoundTables}
 use Rattle.permit_store.specs.Renewing.{Renews}
-use Rattle.permit_store.specs.declared.store.OpenError.TheVariants as open_error
 use Rattle.permit_store.specs.declared.store.StoreError.{StoreError}
 use Rattle.permit_sql_rows.specs.Rows.{int, shown_party}
 use Rattle.permit_sql_rows.specs.Kept.{Keeps, Shows}
@@ -36,8 +35,6 @@ use Rattle.permit_sql_statements.proofs.ReadLemmas.{party_shown, digest_shown}
 use Rattle.permit_sql_statements.specs.Frames.{IsRead, ReadOutlasts}
 use Rattle.permit_sql_statements.specs.Renewing.{IsRenewal}
 use Rattle.permit_sql.specs.Seen.{IsLeft}
-use Rattle.permit_sql.specs.declared.renew.RenewError.{RenewError}
-use Rattle.permit_sql.specs.declared.renew.RenewError.TheVariants as renew_error
 use Rattle.permit_sql.specs.Found.{AreTyped, IsNumbered, KeepsSound}
 use Rattle.permit_store.proofs.Renewals.{number_alike, tables_renewed}
 use Rattle.permit_store.proofs.RenewedHistories.{renewed_follows}
@@ -178,23 +175,3 @@ pub history_after : (party : ℕ) (token : List ℕ) (new : Database) (h : Histo
     Keeps (with_renewed party (digest_of token) (tables h)) new → IsHistory (renewed party token h) × Keeps (tables (renewed party token h)) new
 history_after party token new h is none made =
     (renewed_follows party token h is none, subst (λ t. Keeps t new) (sym (tables_renewed party token h)) made)
-
--- two facts of a success give a third
-pub joined : {A E P Q R : Type 0} (r : Result A E) → OnOk r P → OnOk r Q → (P → Q → R) → OnOk r R
-joined (Ok x) p q both = both p q
-joined (Err e) p q both = tt
-
--- what was so before a success is so after it
-pub always : {A E P : Type 0} (r : Result A E) → P → OnOk r P
-always (Ok x) p = p
-always (Err e) p = tt
-
--- once the tables were tested, nothing is reported as damaged
-pub never_damaged : {A : Type 0} (P : Type 0) (r : Result A RenewError) →
-    IfErr r (λ e. (e ≡ renew_error.Refused refused.Record) ⊎ ((e ≡ renew_error.Refused (refused.NotAdmitted reason.Taken))
-    ⊎ (e ≡ renew_error.Open open_error.Store)))
-    → IfErr r (λ e. e ≡ renew_error.Open open_error.Damaged → P)
-never_damaged P (Ok x) told = tt
-never_damaged P (Err e) (inl told) = λ is. absurd (let a = told in let b = is in cc)
-never_damaged P (Err e) (inr (inl told)) = λ is. absurd (let a = told in let b = is in cc)
-never_damaged P (Err e) (inr (inr told)) = λ is. absurd (let a = told in let b = is in cc)

@@ -1,6 +1,8 @@
 pub use Rattle.permit_sql_rows.specs.Schema
 pub use Rattle.permit_sql_rows.specs.Kept
 pub mod Opening
+pub mod Refusing
+pub mod Creating
 pub mod Upgrading
 pub mod Renewing
 pub mod Taken

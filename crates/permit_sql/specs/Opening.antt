@@ -1,12 +1,18 @@
 -- What an open finds in a database.
-use Rattle.std.specs.Prelude.{◌≡◌, ◌≢◌, ℤ, pos, Some, [], ◌∷◌, slice_get}
+use Rattle.std.specs.Prelude.{◌≡◌, ◌≢◌, ℤ, pos, IsTrue, Some, [], ◌∷◌, slice_get}
 use Rattle.sqlite.specs.declared.types.Value.{Value}
 use Rattle.sqlite.specs.declared.types.Value.TheVariants.{Int}
 use Rattle.sqlite_value.specs.Order.{Row, column}
 use Rattle.sqlite.specs.Effect.{Database}
+use Rattle.sqlite.specs.State.{State, HasCleanDisk, Survives}
+use Rattle.sqlite_trees.specs.View.{doubt as disk_doubt}
 use Rattle.permit_base.specs.declared.words.Edition.{Edition}
-use Rattle.permit_model.specs.Tables.{version_of}
+use Rattle.permit_base.specs.declared.words.Edition.TheVariants.{Second}
+use Rattle.permit_model.specs.Tables.{Tables, version_of}
+use Rattle.permit_store.specs.Frames.{StoreView}
 use Rattle.permit_sql_rows.specs.Schema.{desk_table}
+use Rattle.permit_sql_rows.specs.Kept.{Shows}
+use Rattle.permit_sql.specs.Found.{KeepsSound}
 
 -- what a query of all columns shows of a row of the desk's tree, with the rowid in the first column
 abbrev pub seen_desk : Row → Row
@@ -26,3 +32,14 @@ pub record HasOtherVersion (edition : Edition) (db : Database) : Type 0 where
   pub row : Row
   pub only : db.trees 0 ≡ row ∷ []
   pub other : IsOther edition (column row 2)
+
+-- The store holds the tables of the database, which are sound and are left as they are, with nothing counted yet.
+pub record Opens (old new : State) (store : StoreView) : Type 0 where
+  pub held : (t : Tables) → (HasCleanDisk new → Shows t old) → store.holds t
+  pub opened : HasCleanDisk new → IsTrue new.is_open
+  pub sound : HasCleanDisk new → KeepsSound new.now
+  pub left : HasCleanDisk new → new.now ≡ old.now
+  pub first : HasCleanDisk new → ¬ HasOtherVersion Second old.now
+  pub doubt : store.doubt ≡ disk_doubt new.is_clean
+  pub counts : (store.handed ≡ 0) × (store.failed ≡ 0) × (store.commits ≡ 0)
+  pub crash : Survives old new (λ _. ⊥)

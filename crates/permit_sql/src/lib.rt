@@ -11,26 +11,30 @@
 //! first, then compares the schema, then tests the rows one at a time, each table by one streamed query: once for their
 //! types (`proofs/Refused.antt`), and once for what they say together (`specs/Tested.antt`, `proofs/Passing.antt`). It
 //! calls rows damaged exactly where no sound tables are kept; want of memory and a call that failed are the store's.
+//!
+//! **Which module answers which question.** `typed`, `typed_files`: is each row one of its table's type? `sound`, `sound_files`:
+//! are typed rows sound together? `first_untyped`, `first_unsound`, `first_unsound_paper`: which is the first row that isn't?
+//! `row_rules`, `untyped_rule`: which rule does a row break? `why` puts these together, for `permit check-db --why`.
 #![tactic(auto)]
 
-mod check;
-mod check_files;
 pub mod counts;
 mod each;
 pub mod fault;
+mod first_unsound;
+mod first_unsound_paper;
+mod first_untyped;
 pub mod laws;
 mod open;
 pub mod renew;
 pub mod reopen;
+mod row_rules;
 mod sound;
 mod sound_files;
-mod sound_row;
 pub mod store;
 mod tally;
 mod texts;
-mod unread;
-mod unsound;
-mod unsound_papers;
-mod untyped;
+mod typed;
+mod typed_files;
+mod untyped_rule;
 pub mod versions;
 pub mod why;

@@ -13,12 +13,13 @@ ghost use Rattle.permit_sql_rows.specs.Typed.{firsts, IsDesk};
 ghost use Rattle.permit_sql_rows.specs.Kept.{IsFine};
 ghost use Rattle.permit_sql.specs.Opening.{seen_desk, seen_upgrade, IsOther, HasOtherVersion};
 ghost use Rattle.permit_sql.specs.Found.{HasDesk, HasUpgrade, HasObjects, HasCases, HasSound, KeepsSoundUnder};
+ghost use Rattle.permit_sql.specs.Refusing.{Refuses};
 ghost use Rattle.permit_sql.specs.Frames.{IsLook, LeavesOverCrash, LeavesRows, OverTyped, StaysOpen};
 ghost use Rattle.permit_sql_statements.specs.Frames.{IsIdle, IsOpenAfter};
 
-use crate::check::{check_interests, check_parcels, check_parties};
-use crate::check_files::{check_files, check_papers, check_rowids};
 use crate::sound_files::are_sound;
+use crate::typed::{check_interests, check_parcels, check_parties};
+use crate::typed_files::{check_files, check_papers, check_rowids};
 use permit_base::words::Edition;
 use permit_sql_rows::decode::{desk_in, upgrade_in};
 use permit_sql_rows::fields::whole_number;
@@ -304,17 +305,9 @@ fn check_versioned<S: Alter>(
     requires idle { IsIdle conn.old }
     requires desk { slice_get (state S.Store conn.old).now.schema.tables 0 ≡ Some desk_table }
     ensures sound { IsFine (state S.Store conn.new) → IfOk result (λ s. HasSound edition (state S.Store conn.new).now s.desk s.upgrade) }
-    ensures damaged { HasCleanDisk (state S.Store conn.new)
-        → IfErr result (λ e. e ≡ open_error.Damaged → ¬ KeepsSoundUnder edition (state S.Store conn.old).now) }
-    ensures schema { HasCleanDisk (state S.Store conn.new)
-        → IfErr result (λ e. e ≡ open_error.Damaged → IsOffice edition (state S.Store conn.old).now.schema) }
-    ensures version { HasCleanDisk (state S.Store conn.new)
-        → IfErr result (λ e. e ≡ open_error.Version → HasOtherVersion edition (state S.Store conn.old).now) }
-    ensures told { HasCleanDisk (state S.Store conn.new) → HasOtherVersion edition (state S.Store conn.old).now
-        → (result ≡ Err open_error.Version) ⊎ (result ≡ Err open_error.Store) }
+    ensures first { HasCleanDisk (state S.Store conn.new) → OnOk result (¬ HasOtherVersion edition (state S.Store conn.old).now) }
+    ensures refuses { IfErr result (λ e. Refuses edition (state S.Store conn.old) (state S.Store conn.new) (λ why. e ≡ why)) }
     ensures look { IsLook S.Store conn.old conn.new result }
-    ensures judged { HasCleanDisk (state S.Store conn.new)
-        → IfErr result (λ e. e ≢ open_error.Store → IsTrue (state S.Store conn.new).is_open) }
     ensures refusal { IfErr result (λ e. (e ≡ open_error.Damaged) ⊎ ((e ≡ open_error.Version) ⊎ (e ≡ open_error.Store))) }
 {
     match has_other_version(conn, edition) {
@@ -331,17 +324,9 @@ pub(crate) fn check<S: Alter>(
     edition: Edition,
 ) -> Result<Sound, OpenError>
     ensures sound { IsFine (state S.Store conn.new) → IfOk result (λ s. HasSound edition (state S.Store conn.new).now s.desk s.upgrade) }
-    ensures damaged { HasCleanDisk (state S.Store conn.new)
-        → IfErr result (λ e. e ≡ open_error.Damaged → ¬ KeepsSoundUnder edition (state S.Store conn.old).now) }
-    ensures schema { HasCleanDisk (state S.Store conn.new)
-        → IfErr result (λ e. e ≡ open_error.Damaged → IsOffice edition (state S.Store conn.old).now.schema) }
-    ensures version { HasCleanDisk (state S.Store conn.new)
-        → IfErr result (λ e. e ≡ open_error.Version → HasOtherVersion edition (state S.Store conn.old).now) }
-    ensures told { HasCleanDisk (state S.Store conn.new) → HasOtherVersion edition (state S.Store conn.old).now
-        → (result ≡ Err open_error.Version) ⊎ (result ≡ Err open_error.Store) }
+    ensures first { HasCleanDisk (state S.Store conn.new) → OnOk result (¬ HasOtherVersion edition (state S.Store conn.old).now) }
+    ensures refuses { IfErr result (λ e. Refuses edition (state S.Store conn.old) (state S.Store conn.new) (λ why. e ≡ why)) }
     ensures open { IsOpenAfter S.Store conn.new result }
-    ensures judged { HasCleanDisk (state S.Store conn.new)
-        → IfErr result (λ e. e ≢ open_error.Store → IsTrue (state S.Store conn.new).is_open) }
     ensures left { LeavesRows S.Store conn.old conn.new }
     ensures refusal { IfErr result (λ e. (e ≡ open_error.Damaged) ⊎ ((e ≡ open_error.Version) ⊎ (e ≡ open_error.Store))) }
     ensures busy { IsTrue conn.old.in_transaction → result ≡ Err open_error.Store }

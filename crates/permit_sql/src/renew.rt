@@ -1,6 +1,6 @@
 //! A new token for a party.
 
-ghost use Rattle.std.specs.Prelude.{◌≡◌, ◌≢◌, ◌==◌, ◌⊎◌, ℕ, List, not, length, find, is_some, bytes_eq, None, Some, Err, IsTrue, IfOk, IfErr, OnOk, OnErr};
+ghost use Rattle.std.specs.Prelude.{◌≡◌, ◌≢◌, ◌==◌, ◌⊎◌, List, not, length, find, is_some, bytes_eq, None, Some, Err, IsTrue, IfOk, IfErr, OnOk, OnErr};
 ghost use Rattle.sqlite_value.specs.Order.{Row as SqlRow};
 ghost use Rattle.sqlite.specs.State.{HasCleanDisk, Shown, Survives};
 ghost use Rattle.sqlite.specs.Values.{bound};
@@ -10,19 +10,16 @@ ghost use Rattle.permit_base.specs.declared.refusal.Refusal.{Refusal as TheRefus
 ghost use Rattle.permit_base.specs.declared.refusal.Refusal.TheVariants as refused;
 ghost use Rattle.permit_base.specs.declared.refusal.Reason.TheVariants as reason;
 ghost use Rattle.permit_base.specs.declared.words.Edition.TheVariants.{Second};
-ghost use Rattle.permit_model.specs.History.{History};
-ghost use Rattle.permit_model.specs.Machine.{IsHistory};
-ghost use Rattle.permit_model.specs.Renewal.{renewed, with_renewed, against_renewal};
-ghost use Rattle.permit_model.specs.Tables.{Tables, tables};
+ghost use Rattle.permit_model.specs.Renewal.{with_renewed, against_renewal};
+ghost use Rattle.permit_model.specs.Tables.{Tables};
 ghost use Rattle.permit_store.specs.Renewing.{Renews};
 ghost use Rattle.permit_store.specs.declared.store.OpenError.TheVariants as open_error;
-ghost use Rattle.permit_sql_rows.specs.Schema.{IsOffice};
 ghost use Rattle.permit_sql_rows.specs.Kept.{IsFine, Keeps, Shows};
 ghost use Rattle.permit_sql_statements.specs.Frames.{IsIdle, IsPlainIn, KeepsDoubt, OverShown};
 ghost use Rattle.permit_sql.specs.Found.{KeepsSound};
 ghost use Rattle.permit_sql.specs.Frames.{IsLook};
-ghost use Rattle.permit_sql.specs.Opening.{HasOtherVersion};
-ghost use Rattle.permit_sql.specs.Renewing.{OverKept, IsRenewed};
+ghost use Rattle.permit_sql.specs.Refusing.{Refuses};
+ghost use Rattle.permit_sql.specs.Renewing.{OverKept, IsRenewed, RenewsToken};
 ghost use Rattle.permit_sql.specs.Seen.{IsLeft};
 ghost use Rattle.permit_sql.specs.declared.renew.RenewError.TheVariants as renew_error;
 
@@ -153,28 +150,11 @@ impl<S: Alter> SqlStore<S> {
         party: u32,
         token: &Token,
     ) -> Result<(), RenewError>
-        ensures made { OverKept S.Store conn.old conn.new
-            (λ t. OnOk result (Keeps (with_renewed party (digest_of token.now) t) (state S.Store conn.new).now)) }
-        ensures history { HasCleanDisk (state S.Store conn.new) → (h : History) → IsHistory h → Keeps (tables h) (state S.Store conn.old).now
-            → OnOk result (IsHistory (renewed party token.now h) × Keeps (tables (renewed party token.now h)) (state S.Store conn.new).now) }
-        ensures admitted { OverKept S.Store conn.old conn.new (λ t. OnOk result (against_renewal t.parties party (digest_of token.now) ≡ None)) }
+        ensures renews { OnOk result (RenewsToken party token.now (state S.Store conn.old) (state S.Store conn.new)) }
+        ensures refuses { IfErr result (λ e. Refuses Second (state S.Store conn.old) (state S.Store conn.new) (λ why. e ≡ renew_error.Open why)) }
         ensures refused { OverKept S.Store conn.old conn.new (λ t. IfErr result (λ e. (why : TheRefusal) → e ≡ renew_error.Refused why
             → against_renewal t.parties party (digest_of token.now) ≡ Some why)) }
-        ensures tested { HasCleanDisk (state S.Store conn.new) → OnOk result (KeepsSound (state S.Store conn.old).now) }
-        ensures sound { HasCleanDisk (state S.Store conn.new) → OnOk result (KeepsSound (state S.Store conn.new).now) }
-        ensures opened { HasCleanDisk (state S.Store conn.new) → OnOk result (IsTrue (state S.Store conn.new).is_open) }
-        ensures same { IsFine (state S.Store conn.new) → OnErr result ((state S.Store conn.new).now ≡ (state S.Store conn.old).now) }
         ensures fine { IsFine (state S.Store conn.new) → IsFine (state S.Store conn.old) }
-        ensures version { HasCleanDisk (state S.Store conn.new)
-            → IfErr result (λ e. e ≡ renew_error.Open open_error.Version → HasOtherVersion Second (state S.Store conn.old).now) }
-        ensures told { HasCleanDisk (state S.Store conn.new) → HasOtherVersion Second (state S.Store conn.old).now
-            → (result ≡ Err (renew_error.Open open_error.Version)) ⊎ (result ≡ Err (renew_error.Open open_error.Store)) }
-        ensures damaged { HasCleanDisk (state S.Store conn.new)
-            → IfErr result (λ e. e ≡ renew_error.Open open_error.Damaged → ¬ KeepsSound (state S.Store conn.old).now) }
-        ensures schema { HasCleanDisk (state S.Store conn.new)
-            → IfErr result (λ e. e ≡ renew_error.Open open_error.Damaged → IsOffice Second (state S.Store conn.old).now.schema) }
-        ensures judged { HasCleanDisk (state S.Store conn.new)
-            → IfErr result (λ e. e ≢ renew_error.Open open_error.Store → IsTrue (state S.Store conn.new).is_open) }
         ensures busy { IsTrue conn.old.in_transaction → result ≡ Err (renew_error.Open open_error.Store) }
         ensures refusal { IfErr result (λ e. (e ≡ renew_error.Refused refused.Record) ⊎ ((e ≡ renew_error.Refused (refused.NotAdmitted reason.Taken))
             ⊎ ((e ≡ renew_error.Open open_error.Damaged) ⊎ ((e ≡ renew_error.Open open_error.Version)

@@ -9,9 +9,9 @@ ghost use Rattle.permit_sql.specs.Passed.{PassesParty, PassesParcel, StopsParcel
 ghost use Rattle.permit_sql.specs.Frames.{IsLook, OverTyped};
 ghost use Rattle.permit_sql_statements.specs.Frames.{IsIdle};
 
-use crate::check::takes_all;
 use crate::each::Taker;
 use crate::texts::{EACH_INTEREST, EACH_PARCEL, EACH_PARTY};
+use crate::typed::takes_all;
 use permit_base::words::{Edition, Role};
 use permit_sql_rows::decode::{interest_in, owner_in, role_in};
 use permit_store::store::{Got, StoreError};

@@ -12,12 +12,12 @@ ghost use Rattle.permit_sql.specs.Passed.{PassesFile, StopsFile, PassesPaper, St
 ghost use Rattle.permit_sql.specs.Frames.{IsLook, LeavesOverCrash, LeavesRows, OverTyped, StaysOpen};
 ghost use Rattle.permit_sql_statements.specs.Frames.{IsIdle};
 
-use crate::check::takes_all;
 use crate::each::Taker;
+use crate::row_rules::{fits_desk, fits_file, fits_paper, has_official};
 use crate::sound::{has_declarers, has_owners, roles_of};
-use crate::sound_row::{fits_desk, fits_file, fits_paper, has_official};
 use crate::tally::{Tally, are_ended, place_of};
 use crate::texts::{EACH_FILE, EACH_PAPER};
+use crate::typed::takes_all;
 use permit_base::values::Day;
 use permit_base::words::{Edition, Role};
 use permit_sql_rows::decode::{paper_of, state_in};

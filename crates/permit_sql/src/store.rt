@@ -1,14 +1,10 @@
 //! The store over SQL.
 
-ghost use Rattle.std.specs.Prelude.{◌≡◌, ◌==◌, ◌&&◌, ◌≢◌, ◌≤◌, ◌⊎◌, ⊤, false, IsTrue, IfOk, IfErr, IsErrAnd, OnOk, OnErr, Err, Some, None, is_err, List, length, find, filter, option_map, bytes_eq};
+ghost use Rattle.std.specs.Prelude.{◌≡◌, ◌==◌, ◌&&◌, ◌≢◌, ◌≤◌, ◌⊎◌, ⊤, false, IsTrue, IfOk, IfErr, IsErrAnd, OnOk, Err, Some, None, is_err, List, length, find, filter, option_map, bytes_eq};
 ghost use Rattle.std.specs.List.{list_any};
-ghost use Rattle.sqlite_trees.specs.View.{doubt};
 ghost use Rattle.sqlite.specs.State.{HasCleanDisk, Survives};
 ghost use Rattle.sqlite.specs.Held.{state};
 ghost use Rattle.permit_base.specs.declared.words.Edition.TheVariants.{First, Second};
-ghost use Rattle.permit_model.specs.History.{History, upgraded};
-ghost use Rattle.permit_model.specs.Machine.{IsHistory};
-ghost use Rattle.permit_model.specs.Files.{case_files};
 ghost use Rattle.permit_model.specs.Routes.{found_by, Found as TheFound};
 ghost use Rattle.permit_model.specs.Tables.{Tables, tables, with_upgrade};
 ghost use Rattle.permit_model.specs.Sound.{IsSoundTables};
@@ -17,12 +13,14 @@ ghost use Rattle.permit_store.specs.Counts.{failed_after, handed_after, next_cou
 ghost use Rattle.permit_store.specs.Handing.{AreAmong, AreFound, AreHanded, Hands, found_by_any, selected_after};
 ghost use Rattle.permit_store.specs.Interests.{DeclareSame};
 ghost use Rattle.permit_store.specs.declared.store.OpenError.TheVariants as open_error;
-ghost use Rattle.permit_sql_rows.specs.Schema.{empty_schema, IsOffice};
-ghost use Rattle.permit_sql_rows.specs.Kept.{KeepsUnder, Keeps, Shows, IsFine};
+ghost use Rattle.permit_sql_rows.specs.Schema.{empty_schema};
+ghost use Rattle.permit_sql_rows.specs.Kept.{KeepsUnder, Keeps};
 ghost use Rattle.permit_sql.specs.Seen.{Lasts, suspect_after};
-ghost use Rattle.permit_sql.specs.Opening.{HasOtherVersion};
-ghost use Rattle.permit_sql.specs.Found.{KeepsSound, KeepsSoundUnder};
-ghost use Rattle.permit_sql.specs.Upgrading.{IsUpgraded};
+ghost use Rattle.permit_sql.specs.Creating.{Founds, RefusesToFound};
+ghost use Rattle.permit_sql.specs.Found.{KeepsSoundUnder};
+ghost use Rattle.permit_sql.specs.Opening.{Opens};
+ghost use Rattle.permit_sql.specs.Refusing.{Refuses};
+ghost use Rattle.permit_sql.specs.Upgrading.{Upgrades};
 ghost use Rattle.permit_sql_statements.specs.Founding.{AreCounted};
 ghost use Rattle.permit_sql_statements.specs.Frames.{IsIdle};
 
@@ -206,28 +204,13 @@ impl<S: Alter> SqlStore<S> {
         conn: Connection<S>,
         founder: &Founder,
     ) -> Result<SqlStore<S>, (Connection<S>, OpenError)>
-        ensures founded { IfOk result (λ s. (⟦<SqlStore<S> as Store>⟧.view s).holds
-            (tables (founding founder.now.name founder.now.digest founder.now.day))) }
-        ensures keeps { IfOk result (λ s. HasCleanDisk (state S.Store s.conn)
-            → Keeps (tables (founding founder.now.name founder.now.digest founder.now.day)) (state S.Store s.conn).now) }
+        ensures founds { IfOk result (λ s. Founds (tables (founding founder.now.name founder.now.digest founder.now.day))
+            (state S.Store conn) (state S.Store s.conn) (⟦<SqlStore<S> as Store>⟧.view s)) }
         ensures sound { IsSoundTables (tables (founding founder.now.name founder.now.digest founder.now.day)) }
-        ensures doubt { IfOk result (λ s. (⟦<SqlStore<S> as Store>⟧.view s).doubt ≡ doubt (state S.Store s.conn).is_clean) }
-        ensures handed { IfOk result (λ s. (⟦<SqlStore<S> as Store>⟧.view s).handed ≡ 0) }
-        ensures failed { IfOk result (λ s. (⟦<SqlStore<S> as Store>⟧.view s).failed ≡ 0) }
-        ensures commits { IfOk result (λ s. (⟦<SqlStore<S> as Store>⟧.view s).commits ≡ 0) }
         ensures suspect { IfOk result (λ s. (s.is_suspect ≡ false) × (s.shut ≡ None)) }
-        ensures crash { IfOk result (λ s. Survives (state S.Store conn) (state S.Store s.conn)
-            (λ trees. (db : _) × Keeps (tables (founding founder.now.name founder.now.digest founder.now.day)) db × (trees ≡ db.trees))) }
-        ensures same { IfErr result (λ e. IsFine (state S.Store e.0) → (state S.Store e.0).now ≡ (state S.Store conn).now) }
-        ensures kept { IfErr result (λ e. Survives (state S.Store conn) (state S.Store e.0)
-            (λ trees. ((state S.Store conn).now.schema ≡ empty_schema)
-            × ((db : _) × Keeps (tables (founding founder.now.name founder.now.digest founder.now.day)) db × (trees ≡ db.trees)))) }
-        ensures opened { IfOk result (λ s. HasCleanDisk (state S.Store s.conn) → IsTrue (state S.Store s.conn).is_open) }
-        ensures empty { IfOk result (λ _. (state S.Store conn).now.schema ≡ empty_schema) }
-        ensures exists { IfErr result (λ e. e.1 ≡ OpenError.Exists → (state S.Store conn).now.schema ≢ empty_schema) }
-        ensures told { IfErr result (λ e. conn.in_transaction ≡ false → (state S.Store conn).now.schema ≢ empty_schema → e.1 ≡ OpenError.Exists) }
+        ensures refuses { IfErr result (λ e. RefusesToFound (tables (founding founder.now.name founder.now.digest founder.now.day))
+            (state S.Store conn) (state S.Store e.0) conn.in_transaction e.1) }
         ensures busy { IsTrue conn.in_transaction → IsErrAnd result (λ e. e.1 ≡ open_error.Store) }
-        ensures refusal { IfErr result (λ e. (e.1 ≡ open_error.Exists) ⊎ (e.1 ≡ open_error.Store)) }
     {
         founds_sound_tables(founder);
         let mut conn = conn;
@@ -272,25 +255,10 @@ impl<S: Alter> SqlStore<S> {
         alloc: Global,
         conn: Connection<S>,
     ) -> Result<SqlStore<S>, (Connection<S>, OpenError)>
-        ensures held { IfOk result (λ s. (t : Tables) → (HasCleanDisk (state S.Store s.conn) → Shows t (state S.Store conn))
-            → (⟦<SqlStore<S> as Store>⟧.view s).holds t) }
-        ensures opened { IfOk result (λ s. HasCleanDisk (state S.Store s.conn) → IsTrue (state S.Store s.conn).is_open) }
-        ensures sound { IfOk result (λ s. HasCleanDisk (state S.Store s.conn) → KeepsSound (state S.Store s.conn).now) }
-        ensures left { IfOk result (λ s. HasCleanDisk (state S.Store s.conn) → (state S.Store s.conn).now ≡ (state S.Store conn).now) }
-        ensures doubt { IfOk result (λ s. (⟦<SqlStore<S> as Store>⟧.view s).doubt ≡ doubt (state S.Store s.conn).is_clean) }
-        ensures counts { IfOk result (λ s. (s.handed ≡ 0) × (s.failed ≡ 0) × (s.commits ≡ 0)) }
+        ensures opens { IfOk result (λ s. Opens (state S.Store conn) (state S.Store s.conn) (⟦<SqlStore<S> as Store>⟧.view s)) }
         ensures suspect { IfOk result (λ s. (s.is_suspect ≡ false) × (s.shut ≡ None)) }
-        ensures crash { IfOk result (λ s. Survives (state S.Store conn) (state S.Store s.conn) (λ _. ⊥)) }
-        ensures same { IfErr result (λ e. IsFine (state S.Store e.0) → (state S.Store e.0).now ≡ (state S.Store conn).now) }
+        ensures refuses { IfErr result (λ e. Refuses Second (state S.Store conn) (state S.Store e.0) (λ why. e.1 ≡ why)) }
         ensures kept { IfErr result (λ e. Survives (state S.Store conn) (state S.Store e.0) (λ _. ⊥)) }
-        ensures version { IfErr result (λ e. e.1 ≡ open_error.Version → HasCleanDisk (state S.Store e.0) → HasOtherVersion Second (state S.Store conn).now) }
-        ensures told { IfErr result (λ e. HasCleanDisk (state S.Store e.0) → HasOtherVersion Second (state S.Store conn).now
-            → (e.1 ≡ open_error.Version) ⊎ (e.1 ≡ open_error.Store)) }
-        ensures first { IfOk result (λ s. HasCleanDisk (state S.Store s.conn) → ¬ HasOtherVersion Second (state S.Store conn).now) }
-        ensures damaged { IfErr result (λ e. e.1 ≡ open_error.Damaged → HasCleanDisk (state S.Store e.0) → ¬ KeepsSound (state S.Store conn).now) }
-        ensures schema { IfErr result (λ e. e.1 ≡ open_error.Damaged → HasCleanDisk (state S.Store e.0)
-            → IsOffice Second (state S.Store conn).now.schema) }
-        ensures judged { IfErr result (λ e. e.1 ≢ open_error.Store → HasCleanDisk (state S.Store e.0) → IsTrue (state S.Store e.0).is_open) }
         ensures busy { IsTrue conn.in_transaction → IsErrAnd result (λ e. e.1 ≡ open_error.Store) }
         ensures refusal { IfErr result (λ e. (e.1 ≡ open_error.Damaged) ⊎ ((e.1 ≡ open_error.Version) ⊎ (e.1 ≡ open_error.Store))) }
     {
@@ -319,27 +287,10 @@ impl<S: Alter> SqlStore<S> {
     /// is another than `Store`. A crash inside leaves what was there, or, where those were sound tables, the tables after
     /// the upgrade whole.
     pub fn upgrade(alloc: Global, conn: &mut Connection<S>) -> Result<u32, OpenError>
-        ensures made { HasCleanDisk (state S.Store conn.new) → (t : Tables) → AreCounted t → KeepsUnder First t (state S.Store conn.old).now
-            → IfOk result (λ n. (n ≡ t.desk.files) × Keeps (with_upgrade t) (state S.Store conn.new).now) }
-        ensures history { HasCleanDisk (state S.Store conn.new) → (h : History) → IsHistory h → KeepsUnder First (tables h) (state S.Store conn.old).now
-            → IfOk result (λ n. (n ≡ length (case_files h)) × Keeps (tables (upgraded h)) (state S.Store conn.new).now) }
-        ensures tested { HasCleanDisk (state S.Store conn.new)
-            → IfOk result (λ files. IsUpgraded files (state S.Store conn.old).now (state S.Store conn.new).now) }
-        ensures sound { HasCleanDisk (state S.Store conn.new) → OnOk result (KeepsSound (state S.Store conn.new).now) }
-        ensures opened { HasCleanDisk (state S.Store conn.new) → OnOk result (IsTrue (state S.Store conn.new).is_open) }
-        ensures same { IsFine (state S.Store conn.new) → OnErr result ((state S.Store conn.new).now ≡ (state S.Store conn.old).now) }
-        ensures version { HasCleanDisk (state S.Store conn.new)
-            → IfErr result (λ e. e ≡ open_error.Version → HasOtherVersion First (state S.Store conn.old).now) }
-        ensures told { HasCleanDisk (state S.Store conn.new) → HasOtherVersion First (state S.Store conn.old).now
-            → (result ≡ Err open_error.Version) ⊎ (result ≡ Err open_error.Store) }
+        ensures upgrades { IfOk result (Upgrades (state S.Store conn.old) (state S.Store conn.new)) }
+        ensures refuses { IfErr result (λ e. Refuses First (state S.Store conn.old) (state S.Store conn.new) (λ why. e ≡ why)) }
         ensures again { HasCleanDisk (state S.Store conn.new) → (t : Tables) → Keeps t (state S.Store conn.old).now
             → (result ≡ Err open_error.Version) ⊎ (result ≡ Err open_error.Store) }
-        ensures damaged { HasCleanDisk (state S.Store conn.new)
-            → IfErr result (λ e. e ≡ open_error.Damaged → ¬ KeepsSoundUnder First (state S.Store conn.old).now) }
-        ensures schema { HasCleanDisk (state S.Store conn.new)
-            → IfErr result (λ e. e ≡ open_error.Damaged → IsOffice First (state S.Store conn.old).now.schema) }
-        ensures judged { HasCleanDisk (state S.Store conn.new)
-            → IfErr result (λ e. e ≢ open_error.Store → IsTrue (state S.Store conn.new).is_open) }
         ensures busy { IsTrue conn.old.in_transaction → result ≡ Err open_error.Store }
         ensures refusal { IfErr result (λ e. (e ≡ open_error.Damaged) ⊎ ((e ≡ open_error.Version) ⊎ (e ≡ open_error.Store))) }
         ensures crash { Survives (state S.Store conn.old) (state S.Store conn.new)

@@ -15,16 +15,16 @@ ghost use Rattle.permit_sql.specs.First.{or_else, first_of_parcels, first_of_int
 ghost use Rattle.permit_sql_statements.specs.Frames.{IsIdle, IsOpenAfter};
 ghost use Rattle.permit_sql.specs.Frames.{IsLook, LeavesOverCrash, LeavesRows, OverTyped, StaysOpen};
 
-use crate::check::{check_interests, check_parcels, check_parties};
-use crate::check_files::{check_files, check_papers, check_rowids};
 use crate::fault::{DeskRule, Fault, PaperRule, PartyRule, UpgradeRule};
+use crate::first_unsound::{file_fault, interest_fault, parcel_fault};
+use crate::first_unsound_paper::papers_fault;
+use crate::first_untyped::{Table, first_untyped};
 use crate::open::{desk_seen, find_desk, find_sound, find_upgrade, upgrade_seen};
+use crate::row_rules::{desk_rule, has_official};
 use crate::sound::roles_of;
-use crate::sound_row::{desk_rule, has_official};
-use crate::unread;
-use crate::unsound::{file_fault, interest_fault, parcel_fault};
-use crate::unsound_papers::papers_fault;
-use crate::untyped::{Table, first_untyped};
+use crate::typed::{check_interests, check_parcels, check_parties};
+use crate::typed_files::{check_files, check_papers, check_rowids};
+use crate::untyped_rule;
 use permit_base::words::{Edition, Role};
 use permit_sql_rows::schema::{has_desk, is_office};
 use permit_store::rows::Desk;
@@ -42,7 +42,7 @@ fn desk_fault<S: Alter>(conn: &mut Connection<S>) -> Got<Fault>
     }
     let rows = desk_seen(conn)?;
     Ok(Fault::Desk(match rows.as_slice() {
-        [row] => unread::desk_rule(row),
+        [row] => untyped_rule::desk_rule(row),
         _ => DeskRule::Row,
     }))
 }
@@ -57,7 +57,7 @@ fn upgrade_fault<S: Alter>(conn: &mut Connection<S>) -> Got<Fault>
     }
     let rows = upgrade_seen(conn)?;
     Ok(Fault::Upgrade(match rows.as_slice() {
-        [row] => unread::upgrade_rule(row),
+        [row] => untyped_rule::upgrade_rule(row),
         _ => UpgradeRule::Row,
     }))
 }

@@ -1,19 +1,19 @@
 -- What the texts that read mean.
-use Rattle.std.proofs.Common.{◌≡◌, refl, sym, subst, List, [], ◌∷◌, ℕ, zero, suc, pos, false}
+use Rattle.std.proofs.Common.{◌≡◌, refl, sym, subst, List, [], ◌∷◌, ◌++◌, ℕ, zero, suc, pos, false}
 use Rattle.sqlite_tied.specs.Compute.{everything}
 use Rattle.sqlite.specs.Listing.{understood, reads_listing}
 use Rattle.sqlite.specs.declared.types.Value.TheVariants.{Int}
 use Rattle.sqlite_value.specs.declared.keys.Collation.TheVariants.{Binary}
 use Rattle.sqlite_value.specs.Keys.{ascending}
 use Rattle.sqlite_sql.specs.Term.{Term, lit, col}
-use Rattle.sqlite_sql.specs.Query.{Query, inner, counted, end}
+use Rattle.sqlite_sql.specs.Query.{Query, Join, inner, left, counted, end}
 use Rattle.sqlite_schema.specs.declared.program.Program.{Program}
 use Rattle.sqlite_schema.specs.declared.command.Command.{Command}
 use Rattle.sqlite_schema.specs.declared.command.Command.TheVariants.{Select}
 use Rattle.sqlite.proofs.Callers.{command_of, IsPlain}
 use Rattle.permit_sql_rows.specs.Schema.{Order, schema_in}
-use Rattle.permit_sql_statements.specs.declared.texts.TheConstants.{READ_DESK, READ_PARTY, FIND_PARTY, READ_PARCEL, FIND_PARCEL, FIND_INTEREST, FIND_INTERESTED}
-use Rattle.permit_sql_statements.specs.declared.texts.TheConstants.{READ_FILE, READ_INTERESTS, READ_PAPERS, FIND_NOTICE}
+use Rattle.permit_sql_statements.specs.declared.texts.TheConstants.{READ_DESK, READ_PARTY, FIND_PARTY, READ_PARCEL, FIND_PARCEL, FIND_INTEREST}
+use Rattle.permit_sql_statements.specs.declared.texts.TheConstants.{READ_FILE, READ_FOUND, READ_INTERESTS, READ_PAPERS, FIND_NOTICE}
 use Rattle.permit_base.specs.declared.words.Edition.TheVariants.{Second}
 use Rattle.permit_sql_statements.specs.Frames.{IsPlainIn}
 use Rattle.permit_sql_statements.proofs.Lookups.{plain_query, equals}
@@ -129,22 +129,6 @@ pub find_interest_unlisted : (o : Order) → reads_listing (schema_in o) FIND_IN
 unfolding understood everything
 find_interest_unlisted o = refl
 
-abbrev pub find_interested_query : Query
-find_interested_query = plain_query (counted 1 (inner 5 end) (equals (col 1 2) (col 0 0) ∷ []) end) [] (col 1 0 ∷ []) []
-
-pub find_interested_is : (o : Order) → command_of (understood (schema_in o) FIND_INTERESTED.now)
-    ≡ Select (alone find_interested_query) (names_of (command_of (understood (schema_in o) FIND_INTERESTED.now)))
-unfolding understood everything
-find_interested_is o = refl
-
-pub find_interested_plain : (o : Order) → IsPlain (understood (schema_in o) FIND_INTERESTED.now)
-unfolding understood everything
-find_interested_plain o = (refl, refl)
-
-pub find_interested_unlisted : (o : Order) → reads_listing (schema_in o) FIND_INTERESTED.now ≡ false
-unfolding understood everything
-find_interested_unlisted o = refl
-
 abbrev pub read_interests_query : Query
 read_interests_query = plain_query (inner 5 end) [] (columns_of 2 1) ([])
 
@@ -176,6 +160,33 @@ read_file_plain o = (refl, refl)
 pub read_file_unlisted : (o : Order) → reads_listing (schema_in o) READ_FILE.now ≡ false
 unfolding understood everything
 read_file_unlisted o = refl
+
+-- each file beside its parcel, with one interest of the caller in it, if there is one
+abbrev pub its_parcel : List Term
+its_parcel = equals (col 2 0) (col 1 2) ∷ []
+
+abbrev pub its_interest : List Term
+its_interest = equals (col 3 1) (col 1 2) ∷ equals (col 3 2) (col 0 0) ∷ []
+
+abbrev pub one_interest : Join
+one_interest = counted 1 (inner 5 end) its_interest end
+
+abbrev pub read_found_query : Query
+read_found_query = plain_query (inner 7 (left 3 its_parcel one_interest)) [] (col 1 0 ∷ (columns_of 19 2 ++ col 2 4 ∷ col 3 0 ∷ []))
+    ((col 1 0, ascending Binary) ∷ [])
+
+pub read_found_is : (o : Order) → command_of (understood (schema_in o) READ_FOUND.now)
+    ≡ Select (alone read_found_query) (names_of (command_of (understood (schema_in o) READ_FOUND.now)))
+unfolding understood everything
+read_found_is o = refl
+
+pub read_found_plain : (o : Order) → IsPlain (understood (schema_in o) READ_FOUND.now)
+unfolding understood everything
+read_found_plain o = (refl, refl)
+
+pub read_found_unlisted : (o : Order) → reads_listing (schema_in o) READ_FOUND.now ≡ false
+unfolding understood everything
+read_found_unlisted o = refl
 
 abbrev pub read_papers_query : Query
 read_papers_query = plain_query (inner 8 end) (equals (col 1 1) (col 0 0) ∷ []) (columns_of 9 1) ((col 1 2, ascending Binary) ∷ [])

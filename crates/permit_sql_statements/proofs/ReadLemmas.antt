@@ -7,13 +7,13 @@ use Rattle.std.specs.List.{flat_map, list_all, list_any, AllByRecursion}
 use Rattle.std.proofs.lemmas.Bool.Decides.{nat_tests}
 use Rattle.std.proofs.lemmas.List.Sorted.{length_permutation, IsPermutation-trans, IsPermutation-sym}
 use Rattle.sqlite.specs.declared.types.Value.TheVariants.{Null, Text}
-use Rattle.sqlite_value.specs.Order.{Row, column, value_cmp}
+use Rattle.sqlite_value.specs.Order.{Row, value_cmp}
 use Rattle.sqlite_value.proofs.OrderLemmas.{value_cmp-Int}
 use Rattle.sqlite_value.specs.declared.keys.Collation.TheVariants.{Binary}
 use Rattle.sqlite_sql.specs.declared.ops.BinaryOp.TheVariants.{Compare}
 use Rattle.sqlite_sql.specs.declared.ops.CompareOp.TheVariants.{Eq}
 use Rattle.sqlite_sql.specs.Ops.{binary, is_true}
-use Rattle.sqlite_sql.specs.Term.{Term, col, holds}
+use Rattle.sqlite_sql.specs.Term.{Term, holds}
 use Rattle.sqlite_sql.specs.Query.{Output, output, output_cmp, inner, end, IsAnswer}
 use Rattle.sqlite_sql.specs.Program.{overlay}
 use Rattle.sqlite_sql.proofs.QueryLemmas.{output_cmp_total}
@@ -29,18 +29,16 @@ use Rattle.permit_sql_rows.specs.Rows.{int, flag, desk_row, party_row, parcel_ro
 use Rattle.permit_sql_rows.specs.Rows.{shown_paper}
 use Rattle.permit_sql_rows.specs.Typed.{firsts}
 use Rattle.permit_sql_rows.specs.Kept.{Keeps}
-use Rattle.permit_sql_statements.specs.declared.texts.TheConstants.{READ_DESK, READ_PARTY, FIND_PARTY, READ_PARCEL, FIND_PARCEL, FIND_INTEREST, FIND_INTERESTED}
+use Rattle.permit_sql_statements.specs.declared.texts.TheConstants.{READ_DESK, READ_PARTY, FIND_PARTY, READ_PARCEL, FIND_PARCEL, FIND_INTEREST}
 use Rattle.permit_sql_statements.specs.declared.texts.TheConstants.{READ_FILE, READ_INTERESTS, READ_PAPERS, FIND_NOTICE}
 use Rattle.permit_sql_statements.proofs.Lookups.{plain_query, answers, put_out, spread, put_all_out, put_out_is, one_test, eq_is, text_is, finds_one}
-use Rattle.permit_sql_statements.proofs.Permuted.{one_order}
 use Rattle.permit_sql_statements.proofs.Wholes.{whole_shown, interests_among}
-use Rattle.permit_sql_statements.proofs.Selecting.{counted_by}
 use Rattle.permit_sql_statements.proofs.QueryTexts.{read_desk_query, read_desk_is, read_desk_plain, read_desk_unlisted, read_party_query, read_party_is}
 use Rattle.permit_sql_statements.proofs.QueryTexts.{read_party_plain, read_party_unlisted, find_party_query, find_party_is, find_party_plain}
 use Rattle.permit_sql_statements.proofs.QueryTexts.{find_party_unlisted, read_parcel_query, read_parcel_is, read_parcel_plain, read_parcel_unlisted}
 use Rattle.permit_sql_statements.proofs.QueryTexts.{find_parcel_query, find_parcel_is, find_parcel_plain, find_parcel_unlisted, find_interest_query}
-use Rattle.permit_sql_statements.proofs.QueryTexts.{find_interest_is, find_interest_plain, find_interest_unlisted, find_interested_query, find_interested_is}
-use Rattle.permit_sql_statements.proofs.QueryTexts.{find_interested_plain, find_interested_unlisted, read_file_query, read_file_is, read_file_plain}
+use Rattle.permit_sql_statements.proofs.QueryTexts.{find_interest_is, find_interest_plain, find_interest_unlisted}
+use Rattle.permit_sql_statements.proofs.QueryTexts.{read_file_query, read_file_is, read_file_plain}
 use Rattle.permit_sql_statements.proofs.QueryTexts.{read_interests_query, read_interests_is, read_interests_plain, read_interests_unlisted}
 use Rattle.permit_sql_statements.proofs.QueryTexts.{read_file_unlisted, read_papers_query, read_papers_is, read_papers_plain, read_papers_unlisted}
 use Rattle.permit_sql_statements.proofs.QueryTexts.{find_notice_query, find_notice_is, find_notice_plain, find_notice_unlisted}
@@ -94,25 +92,6 @@ module _ (old new : State) (t : Tables) (rows : List Row) (k : Keeps t old.now) 
       finds_one file_row shown_file 7 read_file_query.filter read_file_query.project (overlay old.now.trees []) (int id ∷ []) t.files (λ f. eqb f.id id)
       (λ f. one_test _ ∙ eq_is f.id id) (λ f. refl)
       k.rows.files (k.keyed.files id) rows (read.answer Null)
-
-  pub interested_shown : (party : ℕ) → Shown FIND_INTERESTED.now (int party ∷ []) old new rows →
-      rows ≡ (flag (list_any (λ i. eqb i.party party) t.interests) ∷ []) ∷ []
-  interested_shown party h =
-      let params = int party ∷ [] in
-      let db = overlay old.now.trees [] in
-      let o = k.schema.order in
-      let read = reads_as FIND_INTERESTED.now params old new (schema_in o) k.schema.is _ (find_interested_is o) (find_interested_plain o) (find_interested_unlisted o) rows h in
-      let got = answers find_interested_query.from [] (col 1 0 ∷ []) [] db params rows (read.answer Null) in
-      got.3 ∙ ap (map (λ (o : Output). o.1)) (one_order _ got.0 (omega arith) got.1)
-      ∙ ap (λ v. (v ∷ []) ∷ []) (counted_by passes (λ i. eqb i.party party) cut (λ i. one_test _ ∙ eq_is i.party party) (λ r. params ∷ r ∷ []) t.interests
-      (db 5) k.rows.interests)
-    where
-      passes : Row → Bool
-      passes r = is_true (binary (Compare Eq Binary) (column r 2) (int party)) && true
-
-      cut : (r : Row) → passes r ≡ passes (Null ∷ drop 1 r)
-      cut [] = refl
-      cut (x ∷ r) = refl
 
   -- ---- tables whose rowid is of no account
 

@@ -1,7 +1,5 @@
 -- The rows of an answer as they were read and handed out.
-use Rattle.std.proofs.Common.{◌≡◌, Option, ℕ, ◌+◌, ◌%◌, ◌^◌, ◌<◌, Bool, true, List, [], ◌∷◌, ◌++◌, length, Ok, refl, sym, ap, subst, ◌∙◌, arith}
-use Rattle.std.proofs.Math.Nat.{add-mod, mod-eq_of_lt}
-use Rattle.std.proofs.lemmas.List.{length_push}
+use Rattle.std.proofs.Common.{◌≡◌, Option, ℕ, Bool, true, List, [], ◌∷◌, ◌++◌, Ok, refl, sym, subst}
 use Rattle.sqlite_value.specs.Order.{Row}
 use Rattle.sqlite.specs.Clock.{timed}
 use Rattle.sqlite.specs.Effect.{Database}
@@ -10,7 +8,6 @@ use Rattle.sqlite.specs.State.{State, IsUnchanged, Shown, ShowsRows, Begins}
 use Rattle.sqlite.proofs.Callers.{IsPlain, unchanged_then}
 use Rattle.permit_core.specs.Taking.{TookAll}
 use Rattle.permit_model.specs.Routes.{Found}
-use Rattle.permit_store.specs.Handing.{more_handed}
 use Rattle.permit_sql_rows.specs.Kept.{IsNamed}
 use Rattle.permit_sql_rows.specs.Rows.{shown_found}
 use Rattle.permit_sql_statements.specs.Gave.{AreReadAs}
@@ -60,13 +57,3 @@ pub took_more : {T : Type 0} (took : T → Found → T → Bool → Type 0) (giv
     TookAll took (given ++ g ∷ []) a d
 took_more took [] g a b d is h = (d, subst (λ x. took x g d true) is h, refl)
 took_more took (f ∷ fs) g a b d all h = (all.0, all.1, took_more took fs g all.0 b d all.2 h)
-
-pub none_counted : (h : ℕ) → h < 2 ^ 64 → h ≡ more_handed 0 h
-none_counted h low = let zero_more : h + 0 ≡ h = omega arith in sym (ap (λ n. n % 2 ^ 64) zero_more ∙ mod-eq_of_lt low)
-
-pub one_counted : (given : List Found) (g : Found) (h now : ℕ) → now ≡ more_handed (length given) h →
-    (now + 1) % 2 ^ 64 ≡ more_handed (length (given ++ g ∷ [])) h
-one_counted given g h now is =
-    let long : length (given ++ g ∷ []) ≡ length given + 1 = length_push given g in
-    let more : h + length given + 1 ≡ h + (length given + 1) = omega arith in
-    ap (λ n. (n + 1) % 2 ^ 64) is ∙ sym (add-mod (h + length given) 1 (2 ^ 64)) ∙ ap (λ n. n % 2 ^ 64) more ∙ ap (λ n. (h + n) % 2 ^ 64) (sym long)

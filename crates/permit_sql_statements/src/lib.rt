@@ -10,7 +10,6 @@ pub mod create;
 pub mod idle;
 pub mod lending;
 pub mod query;
-mod question;
 pub mod read;
 pub mod renew;
 mod runs;

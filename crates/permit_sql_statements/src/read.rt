@@ -1,14 +1,14 @@
 //! What is read of the tables, over a connection.
 
-ghost use Rattle.std.specs.Prelude.{◌≡◌, ◌==◌, ◌&&◌, Bool, not, List, [], ◌∷◌, ◌++◌, map, filter, find, length};
-ghost use Rattle.std.specs.Prelude.{Option, option_map, slice_get, bytes_eq, IfOk, IfErr, OnOk, IfSome, IsSome, IsErr, IsOk, IsPermutation};
+ghost use Rattle.std.specs.Prelude.{◌≡◌, ◌==◌, ◌&&◌, not, List, [], ◌∷◌, ◌++◌, map, filter, find, length};
+ghost use Rattle.std.specs.Prelude.{Option, option_map, slice_get, bytes_eq, IfOk, IfErr, OnOk, IfSome, IsSome, IsOk, IsPermutation};
 ghost use Rattle.std.specs.Result.{result_ok};
 ghost use Rattle.std.specs.List.{list_any};
 ghost use Rattle.sqlite.specs.Held.{state};
 ghost use Rattle.permit_model.specs.Caller.{Party as TheParty};
 ghost use Rattle.permit_model.specs.Parcels.{Interest as TheInterest, Parcel as TheParcel};
 ghost use Rattle.permit_model.specs.Tables.{Desk as TheDesk, FileRow as TheRow, Paper as ThePaper};
-ghost use Rattle.permit_sql_rows.specs.Rows.{flag, shown_desk, shown_party, shown_parcel, shown_file, shown_interest, shown_paper};
+ghost use Rattle.permit_sql_rows.specs.Rows.{shown_desk, shown_party, shown_parcel, shown_file, shown_interest, shown_paper};
 ghost use Rattle.permit_sql_rows.specs.Kept.{IsNamed};
 ghost use Rattle.permit_sql_rows.specs.Typed.{IsObject, IsDesk, IsParty, IsParcel, IsFile};
 ghost use Rattle.permit_sql_statements.specs.Frames.{IsRead, OverShown, ReadOutlasts};
@@ -16,15 +16,14 @@ ghost use Rattle.permit_sql_statements.specs.Frames.{IsRead, OverShown, ReadOutl
 use crate::idle::Idle;
 use crate::query::rows_of;
 use crate::texts::{
-    FIND_INTEREST, FIND_INTERESTED, FIND_NOTICE, FIND_PARCEL, FIND_PARTY, READ_DESK, READ_FILE,
-    READ_INTERESTS, READ_PAPERS, READ_PARCEL, READ_PARTY,
+    FIND_INTEREST, FIND_NOTICE, FIND_PARCEL, FIND_PARTY, READ_DESK, READ_FILE, READ_INTERESTS,
+    READ_PAPERS, READ_PARCEL, READ_PARTY,
 };
 use permit_base::values::{Digest, FileId, Lot, PaperNumber, ParcelId, PartyId};
 use permit_base::words::Role;
 use permit_core::state::FileState;
 use permit_sql_rows::decode::{
     desk_in, file_of, interest_in, owner_in, paper_of, parcel_of, party_of, role_in, state_in,
-    truth_in,
 };
 use permit_sql_rows::fields::{Read, RowFault};
 use permit_store::rows::{Desk, FileRow, Interest, Paper, Parcel, Party};
@@ -94,15 +93,6 @@ fn declared_rows<S: Alter>(conn: &mut Idle<S>) -> Got<Vec<Row>>
     ensures read { IsRead S.Store conn.old conn.new result }
 {
     rows_of(conn, READ_INTERESTS, &[])
-}
-
-/// A row that says whether the party has declared an interest.
-fn interested_rows<S: Alter>(conn: &mut Idle<S>, party: PartyId) -> Got<Vec<Row>>
-    ensures found { OverShown S.Store conn.old conn.new
-        (λ t. IfOk result (λ rows. rows.items ≡ (flag (list_any (λ i. i.party == party) t.interests) ∷ []) ∷ [])) }
-    ensures read { IsRead S.Store conn.old conn.new result }
-{
-    rows_of(conn, FIND_INTERESTED, params![party.get()])
 }
 
 /// The row of the file with the number, if there is one.
@@ -230,23 +220,6 @@ fn first_owner(rows: &[Row]) -> Got<Option<PartyId>>
     }
 }
 
-/// The truth value in the one row.
-fn first_truth(rows: &[Row]) -> Got<bool>
-    ensures read { (is : Bool) → rows.now ≡ (flag is ∷ []) ∷ [] → IfOk result (λ b. b ≡ is) }
-    ensures ok { (is : Bool) → rows.now ≡ (flag is ∷ []) ∷ [] → IsOk result }
-
-    // Without a row the call fails.
-    ensures row { rows.now ≡ [] → IsErr result }
-{
-    match rows.get(0) {
-        None => Err(StoreError),
-        Some(row) => match truth_in(row) {
-            Some(is) => Ok(is),
-            None => Err(StoreError),
-        },
-    }
-}
-
 /// The state in the first row, if there is a row.
 fn first_state(rows: &[Row], upgrade: Option<u32>) -> Got<Option<FileState>>
     ensures read { (found : Option TheRow) → IfSome found (λ f. IsNamed upgrade f.id f.state) → slice_get rows.now 0 ≡ option_map shown_file found
@@ -362,16 +335,6 @@ pub fn has_interest<S: Alter>(conn: &mut Idle<S>, parcel: ParcelId, party: Party
 {
     let rows = interest_rows(conn, parcel, party)?;
     Ok(rows.len() != 0)
-}
-
-/// Whether the party has declared an interest in any parcel.
-pub(crate) fn is_interested<S: Alter>(conn: &mut Idle<S>, party: PartyId) -> Got<bool>
-    ensures found { OverShown S.Store conn.old conn.new
-        (λ t. IfOk result (λ b. b ≡ list_any (λ i. i.party == party) t.interests)) }
-    ensures read { IsRead S.Store conn.old conn.new result }
-{
-    let rows = interested_rows(conn, party)?;
-    first_truth(&rows)
 }
 
 /// An interest more.

@@ -1,4 +1,4 @@
-//! The texts of the statements, all but those of the selections. A specification that speaks of one cites it here.
+//! The texts of the statements. A specification that speaks of one cites it here.
 
 // ---- the tables and their indexes
 
@@ -81,15 +81,16 @@ pub const FIND_PARCEL: &str = "SELECT id, lot, address, owner FROM parcel WHERE 
 /// A row for each interest of the party in the parcel.
 pub const FIND_INTEREST: &str = "SELECT 1 FROM interest WHERE parcel = ?1 AND party = ?2";
 
-/// Whether there is an interest of the party.
-pub const FIND_INTERESTED: &str = "SELECT EXISTS (SELECT 1 FROM interest WHERE party = ?1)";
-
 /// Every interest.
 pub const READ_INTERESTS: &str = "SELECT parcel, party FROM interest";
 
 /// The file with the number.
 pub const READ_FILE: &str =
     "SELECT id, parcel, applicant, contractor, reviewer, inspector, kind, valuation, description, filed, stage, deadline, done, request, requested, ask, stopped, notices, papers, temporary FROM file WHERE id = ?1";
+
+/// Every file, in rising number, with the owner of its parcel and whether the party has declared an interest in it.
+pub const READ_FOUND: &str =
+    "SELECT file.id, file.parcel, applicant, contractor, reviewer, inspector, kind, valuation, description, filed, stage, deadline, done, request, requested, ask, stopped, notices, papers, temporary, parcel.owner, EXISTS (SELECT 1 FROM interest WHERE interest.parcel = file.parcel AND interest.party = ?1) FROM file LEFT JOIN parcel ON parcel.id = file.parcel ORDER BY file.id";
 
 /// The papers of the file, in rising number.
 pub const READ_PAPERS: &str =

@@ -6,6 +6,7 @@ use Rattle.permit_base.specs.declared.request.Asked.{Asked}
 use Rattle.permit_model.specs.Machine.{Refused as Refuses}
 use Rattle.permit_store.specs.Frames.{StoreView}
 use Rattle.permit_office.specs.Office.{OfficeView}
+use Rattle.permit_office.specs.declared.log.Log.{Ghosts}
 use Rattle.permit_report.specs.Outgoing.{WroteFront}
 use Rattle.permit_http.specs.Stream.{InboxData, fresh}
 use Rattle.permit_http.specs.declared.error.WireError.{WireError}
@@ -32,10 +33,10 @@ AreReadAs request read = (inbox : InboxData) × (left : Option (List ℕ)) × Re
 
 -- The answer is the reply of the one step that the office made for the request which the bytes ask, or their fault, which
 -- leaves the office.
-abbrev pub Asks : {S : Type 0} → (S → StoreView) → ℕ → OfficeView S → OfficeView S → List ℕ → Answer → Type 0
-Asks view day old new request (answer.Replied reply action on) =
-    (asked : Asked) × AreReadAs request (Ok (Some asked)) × Steps view day asked reply old new × (action ≡ action_of asked.request) × (on ≡ day)
-Asks view day old new request (answer.Fault why) = AreReadAs request (Err (error.Fault why)) × (new ≡ old)
+abbrev pub Asks : {S L : Type 0} → (S → StoreView) → Ghosts L → ℕ → OfficeView S L → OfficeView S L → List ℕ → Answer → Type 0
+Asks view log day old new request (answer.Replied reply action on) =
+    (asked : Asked) × AreReadAs request (Ok (Some asked)) × Steps view log day asked reply old new × (action ≡ action_of asked.request) × (on ≡ day)
+Asks view log day old new request (answer.Fault why) = AreReadAs request (Err (error.Fault why)) × (new ≡ old)
 
 -- the word of the refusal for a fault
 abbrev pub word_of : Fault → RefusalWord

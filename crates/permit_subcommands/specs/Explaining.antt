@@ -7,10 +7,16 @@ use Rattle.permit_args.specs.declared.plan.TokenWords.TheVariants.{Given, File}
 use Rattle.permit_subcommands.specs.Requests.{is_word}
 use Rattle.permit_subcommands.specs.declared.explaining.Unread.{Unread}
 use Rattle.permit_subcommands.specs.declared.explaining.Unread.TheVariants as unread
+use Rattle.permit_subcommands.specs.declared.failure.LineReason.{LineReason}
+use Rattle.permit_subcommands.specs.declared.failure.LineReason.TheVariants as reason
 
 -- what is taken as a day
 abbrev pub day_reason : List ℕ
 day_reason = codes "--day takes a date, YYYY-MM-DD, from 1970-01-01 to 2243-10-17; example: --day 2026-07-15"
+
+-- what is taken as the day from which on entries of a history are printed
+abbrev pub since_reason : List ℕ
+since_reason = codes "--since takes a date, YYYY-MM-DD, from 1970-01-01 to 2243-10-17; example: --since 2026-07-15"
 
 -- what is taken as a zone
 abbrev pub zone_reason : List ℕ
@@ -55,4 +61,23 @@ unread_reason unread.NoFile = codes "no such file or folder"
 unread_reason unread.Folder = codes "the path is a folder"
 unread_reason unread.NoRight = codes "no right to read the file"
 unread_reason unread.NotRegular = codes "the path is no regular file"
+unread_reason unread.SecondName = codes "the file has a second name, a hard link"
 unread_reason unread.Failed = codes "the file can't be read, or isn't UTF-8"
+
+-- what is wrong with a line of a history: the word for a line that is no entry, or for an entry that is not the next one
+abbrev pub line_reason : LineReason → List ℕ
+line_reason reason.Long = codes "that line is no entry of a history: long"
+line_reason reason.Syntax = codes "that line is no entry of a history: syntax"
+line_reason reason.Fields = codes "that line is no entry of a history: fields"
+line_reason reason.Form = codes "that line is no entry of a history: form"
+line_reason reason.NoFounding = codes "that line may not follow those before it: no founding"
+line_reason reason.SecondBeginning = codes "that line may not follow those before it: second beginning"
+line_reason reason.SecondFounding = codes "that line may not follow those before it: second founding"
+line_reason reason.FirstEdition = codes "that line may not follow those before it: first edition"
+line_reason reason.UpgradeDay = codes "that line may not follow those before it: upgrade day"
+line_reason reason.SecondUpgrade = codes "that line may not follow those before it: second upgrade"
+line_reason reason.Caller = codes "that line may not follow those before it: caller"
+line_reason reason.Clock = codes "that line may not follow those before it: clock"
+line_reason reason.Record = codes "that line may not follow those before it: record"
+line_reason reason.NotAdmitted = codes "that line may not follow those before it: not admitted"
+line_reason reason.Number = codes "that line may not follow those before it: number"

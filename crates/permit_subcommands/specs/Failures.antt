@@ -30,10 +30,13 @@ open_word opening.Exists = codes "exists"
 
 abbrev pub history_words : HistoryFailure → List ℕ
 history_words history.Differs = codes "differs"
-history_words (history.Line line) = codes "line " ++ decimal line
+history_words history.Changed = codes "differs"
+history_words (history.Line line reason) = codes "line " ++ decimal line
 history_words history.Short = codes "short"
 history_words history.Exists = codes "exists"
 history_words history.Copy = codes "copy"
+history_words history.Itself = codes "copy"
+history_words history.Unused = codes "unused"
 history_words history.Store = codes "store"
 
 -- the line for a failure

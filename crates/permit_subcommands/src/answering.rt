@@ -1,4 +1,4 @@
-//! One request through the office, and what is printed of its answer.
+//! One request through an office, with or without a history, and what is printed of its answer.
 
 ghost use Rattle.std.specs.Prelude.{◌≡◌, ◌≤◌, IfOk, OnErr};
 ghost use Rattle.permit_answer.specs.AnswerText.{answer_data};
@@ -15,6 +15,7 @@ use permit_base::values::Day;
 use permit_http::error::WireError;
 use permit_http::fault::Fault;
 use permit_http::inbox::Inbox;
+use permit_office::log::Log;
 use permit_office::office::Office;
 use permit_office::reply::Reply;
 use permit_store::store::Store;
@@ -35,15 +36,15 @@ use std::io::Write;
 /// assert!(rt; show(alloc, &answer, &mut out).is_err());
 /// assert!(rt; out.as_slice() == b"{\"refused\":\"caller\"}\n".as_slice());
 /// ```
-pub fn ask<S: Store + Drop>(
+pub fn ask<S: Store + Drop, L: Log + Drop>(
     alloc: Global,
-    office: &mut Office<S>,
+    office: &mut Office<S, L>,
     request: &str,
     day: Day,
 ) -> Result<Answer, AllocError>
-    ensures answers { IfOk result (Asks S.view day office.old office.new request.now) }
+    ensures answers { IfOk result (Asks S.view L.Log day office.old office.new request.now) }
     ensures unserved { OnErr result (office.new ≡ office.old) }
-    ensures moves { Moves S.view day office.old office.new }
+    ensures moves { Moves S.view L.Log day office.old office.new }
     ensures policy { office.new.policy ≡ office.old.policy }
     ensures doubt { (S.view office.old.store).doubt ≤ (S.view office.new.store).doubt }
 {

@@ -1,8 +1,9 @@
 //! What is taken in place of words that are refused, and why a file can't be read, each in a line without its end.
 
 ghost use Rattle.std.specs.Prelude.{◌≡◌};
-ghost use Rattle.permit_subcommands.specs.Explaining.{act_reason, day_reason, founder_reason, listen_reason, method_reason, name_reason, path_reason, request_reason, token_reason, unread_reason, zone_reason};
+ghost use Rattle.permit_subcommands.specs.Explaining.{act_reason, day_reason, founder_reason, line_reason, listen_reason, method_reason, name_reason, path_reason, request_reason, since_reason, token_reason, unread_reason, zone_reason};
 
+use crate::failure::LineReason;
 use crate::request::is_word;
 use permit_args::plan::{ActWords, TokenWords};
 use permit_base::values::{Printable, TextKind};
@@ -12,6 +13,13 @@ pub fn day_reason() -> &'static str
     ensures { result.now ≡ day_reason }
 {
     "--day takes a date, YYYY-MM-DD, from 1970-01-01 to 2243-10-17; example: --day 2026-07-15"
+}
+
+/// What is taken as the day from which on entries of a history are printed.
+pub fn since_reason() -> &'static str
+    ensures { result.now ≡ since_reason }
+{
+    "--since takes a date, YYYY-MM-DD, from 1970-01-01 to 2243-10-17; example: --since 2026-07-15"
 }
 
 /// What is taken as a zone.
@@ -112,6 +120,8 @@ pub enum Unread {
     NoRight,
     /// The path is something else than a file, as a device.
     NotRegular,
+    /// The file has a hard link.
+    SecondName,
     /// A call of the file failed, or its bytes aren't UTF-8.
     Failed,
 }
@@ -126,7 +136,31 @@ impl Unread {
             Unread::Folder => "the path is a folder",
             Unread::NoRight => "no right to read the file",
             Unread::NotRegular => "the path is no regular file",
+            Unread::SecondName => "the file has a second name, a hard link",
             Unread::Failed => "the file can't be read, or isn't UTF-8",
         }
+    }
+}
+
+/// What is wrong with a line of a history, by the word that says it.
+pub fn line_reason(reason: LineReason) -> &'static str
+    ensures { result.now ≡ line_reason reason }
+{
+    match reason {
+        LineReason::Long => "that line is no entry of a history: long",
+        LineReason::Syntax => "that line is no entry of a history: syntax",
+        LineReason::Fields => "that line is no entry of a history: fields",
+        LineReason::Form => "that line is no entry of a history: form",
+        LineReason::NoFounding => "that line may not follow those before it: no founding",
+        LineReason::SecondBeginning => "that line may not follow those before it: second beginning",
+        LineReason::SecondFounding => "that line may not follow those before it: second founding",
+        LineReason::FirstEdition => "that line may not follow those before it: first edition",
+        LineReason::UpgradeDay => "that line may not follow those before it: upgrade day",
+        LineReason::SecondUpgrade => "that line may not follow those before it: second upgrade",
+        LineReason::Caller => "that line may not follow those before it: caller",
+        LineReason::Clock => "that line may not follow those before it: clock",
+        LineReason::Record => "that line may not follow those before it: record",
+        LineReason::NotAdmitted => "that line may not follow those before it: not admitted",
+        LineReason::Number => "that line may not follow those before it: number",
     }
 }

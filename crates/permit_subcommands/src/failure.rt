@@ -14,19 +14,60 @@ use std::alloc::{AllocError, Global};
 use std::fmt;
 use std::io::{self, ErrorKind};
 
+/// What is wrong with a line of a history's text: it is no entry's, or its entry may not follow those before it.
+#[derive(Clone, Copy, PartialEq, Eq)]
+pub enum LineReason {
+    /// It has too many bytes.
+    Long,
+    /// It is not UTF-8, or no JSON.
+    Syntax,
+    /// A key is missing, or a value is out of its limits.
+    Fields,
+    /// It is another spelling of its entry.
+    Form,
+    /// It is the first, and neither founds an office nor begins with a copy, or founds one on day 0.
+    NoFounding,
+    /// It begins with a copy after the first line.
+    SecondBeginning,
+    /// It founds an office after the first line.
+    SecondFounding,
+    /// It is between the founding and the upgrade.
+    FirstEdition,
+    /// It is the upgrade, on another day than the founding.
+    UpgradeDay,
+    /// It is the upgrade after the upgrade.
+    SecondUpgrade,
+    /// No party has the number of the caller.
+    Caller,
+    /// Its day is before that of the last command.
+    Clock,
+    /// The parcel, file or party isn't there.
+    Record,
+    /// The state of the office does not admit the command.
+    NotAdmitted,
+    /// The command makes another number than the line has.
+    Number,
+}
+
 /// Why the history of an office can't be used.
 #[derive(Clone, Copy, PartialEq, Eq)]
 pub enum HistoryFailure {
     /// The office's tables are not those that the text gives.
     Differs,
+    /// The first lines of the text aren't those that they once were.
+    Changed,
     /// This line of the text is none, or its entry may not follow those before it. Lines are counted from 1 on.
-    Line(u64),
+    Line(u64, LineReason),
     /// The text ends before its second line, so it describes no office.
     Short,
     /// Where an office is founded, there is a text already.
     Exists,
     /// The text begins with a copy of the office's database, and the copy that is named is another one or none, or none is named.
     Copy,
+    /// The copy of the office's database that is named is that database itself.
+    Itself,
+    /// There is a history beside the database, which isn't named.
+    Unused,
     /// A call of the file failed, or another program has it open.
     Store,
 }
@@ -193,11 +234,16 @@ impl fmt::Display for Failure {
             Failure::Database(OpenError::Version) => f.write_str("database: version"),
             Failure::Database(OpenError::Store) => f.write_str("database: store"),
             Failure::Database(OpenError::Exists) => f.write_str("database: exists"),
-            Failure::History(HistoryFailure::Differs) => f.write_str("history: differs"),
-            Failure::History(HistoryFailure::Line(line)) => write!(f, "history: line {line}"),
+            Failure::History(HistoryFailure::Differs | HistoryFailure::Changed) => f.write_str(
+                "history: differs",
+            ),
+            Failure::History(HistoryFailure::Line(line, _)) => write!(f, "history: line {line}"),
             Failure::History(HistoryFailure::Short) => f.write_str("history: short"),
             Failure::History(HistoryFailure::Exists) => f.write_str("history: exists"),
-            Failure::History(HistoryFailure::Copy) => f.write_str("history: copy"),
+            Failure::History(HistoryFailure::Copy | HistoryFailure::Itself) => f.write_str(
+                "history: copy",
+            ),
+            Failure::History(HistoryFailure::Unused) => f.write_str("history: unused"),
             Failure::History(HistoryFailure::Store) => f.write_str("history: store"),
             Failure::Day => f.write_str("day: unreadable"),
             Failure::Zone => f.write_str("zone: unreadable"),

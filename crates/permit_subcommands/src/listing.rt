@@ -1,4 +1,4 @@
-//! Listings and registers of an office, over any store, and how a listing is printed.
+//! Listings and registers of an office, with or without a history, over any store, and how a listing is printed.
 
 ghost use Rattle.std.specs.Prelude.{◌≡◌, ◌≤◌, IfOk, string_bytes};
 ghost use Rattle.permit_base.specs.Digests.{digest_of};
@@ -17,6 +17,7 @@ use crate::refused::Refused;
 use permit_base::request::{Asked, FileStage, Filter, Request};
 use permit_base::values::{Day, Token};
 use permit_base::words::RegisterKind;
+use permit_office::log::Log;
 use permit_office::office::Office;
 use permit_office::reply::{Listing, Reply};
 use permit_office::showing::{RowsEnd, register_filter};
@@ -59,14 +60,14 @@ pub fn filter_of(stage: Option<FileStage>) -> Filter
 /// };
 /// assert!(rt; listing_text(alloc, &listing)?.as_str() == "read 0\n");
 /// ```
-pub fn list<S: Store + Drop>(
-    office: &mut Office<S>,
+pub fn list<S: Store + Drop, L: Log + Drop>(
+    office: &mut Office<S, L>,
     token: Token,
     filter: Filter,
     day: Day,
 ) -> Result<Listing, Failure>
     ensures step { (reply : TheReply) × (result ≡ listed reply)
-        × Steps S.view day (record { token = token; request = ListFiles filter }) reply office.old office.new }
+        × Steps S.view L.Log day (record { token = token; request = ListFiles filter }) reply office.old office.new }
 {
     let request = Request::ListFiles { filter };
     let reply = office.step(&Asked { token, request }, day);
@@ -75,8 +76,8 @@ pub fn list<S: Store + Drop>(
 
 /// Writes a register for the caller of the token, each line as the office hands its file out. The failure is the output's
 /// where that failed, else the office's refusal; a prefix of the text is then written.
-pub fn write_register<S: Store + Drop, W: Write>(
-    office: &mut Office<S>,
+pub fn write_register<S: Store + Drop, L: Log + Drop, W: Write>(
+    office: &mut Office<S, L>,
     token: Token,
     kind: RegisterKind,
     day: Day,
@@ -89,6 +90,7 @@ pub fn write_register<S: Store + Drop, W: Write>(
         × OverHistory (S.view office.old.store) (S.view office.new.store) (λ h. OpensAt (rows_opened office.old.policy h (digest_of token) (Register kind) day)
         end (S.view office.old.store).handed (S.view office.new.store).handed) }
     ensures policy { office.new.policy ≡ office.old.policy }
+    ensures log { office.new.log ≡ office.old.log }
 {
     written_registers::<W>();
     let mut writer = RegisterWriter::new(kind, day, out);

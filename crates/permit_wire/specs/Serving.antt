@@ -8,6 +8,7 @@ use Rattle.permit_store.specs.Frames.{StoreView, OverHistory}
 use Rattle.permit_office.specs.Answers.{Answers, reply_of}
 use Rattle.permit_office.specs.Frames.{IsStep}
 use Rattle.permit_office.specs.Office.{OfficeView}
+use Rattle.permit_office.specs.declared.log.Log.{Ghosts}
 use Rattle.permit_office.specs.declared.reply.Reply.{Reply}
 use Rattle.permit_http.specs.Stream.{InboxData}
 use Rattle.permit_http.specs.declared.fault.Fault.{Fault}
@@ -31,14 +32,16 @@ abbrev pub is_shut : Served → Bool
 is_shut Kept = false
 is_shut _ = true
 
--- the office made one step for the request, and the reply is the machine's, or the store's refusal where a call failed
-pub record Steps {S : Type 0} (view : S → StoreView) (day : ℕ) (asked : Asked) (reply : Reply) (office office' : OfficeView S) : Type 0 where
-  pub step : IsStep view (digest_of asked.token) asked.request day office office' reply
+-- The office made one step for the request, and the reply is the machine's, or the store's refusal where a call or the log failed.
+-- The step says what became of the log.
+pub record Steps {S L : Type 0} (view : S → StoreView) (log : Ghosts L) (day : ℕ) (asked : Asked) (reply : Reply) (office office' : OfficeView S L)
+    : Type 0 where
+  pub step : IsStep view log (digest_of asked.token) asked.request day office office' reply
   pub model : OverHistory (view office.store) (view office'.store) (λ h. Answers (view office'.store).holds reply (machine_step office.policy h asked day) h)
 
 -- the office made that step on the day, which its reply has
-abbrev pub StepsOn : {S : Type 0} → (S → StoreView) → OfficeView S → Asked → ℕ → Dated → OfficeView S → Type 0
-StepsOn view office asked day dated office' = Steps view day asked dated.reply office office' × (dated.day ≡ day)
+abbrev pub StepsOn : {S L : Type 0} → (S → StoreView) → Ghosts L → OfficeView S L → Asked → ℕ → Dated → OfficeView S L → Type 0
+StepsOn view log office asked day dated office' = Steps view log day asked dated.reply office office' × (dated.day ≡ day)
 
 -- a request was read, the service served it, and its reply's text went out
 pub record ServesRequest {T : Type 0} (serves : T → Asked → Dated → T → Type 0) (service service' : T) (bytes : List ℕ) (old new : InboxData)
@@ -76,10 +79,10 @@ ServesBy serves service service' bytes old new left before after served =
     ServesEither serves service service' bytes old new left before after served
 
 -- what the office served of it
-abbrev pub Serves : {S : Type 0} → (S → StoreView) → ℕ → OfficeView S → OfficeView S → List ℕ → InboxData → InboxData
+abbrev pub Serves : {S L : Type 0} → (S → StoreView) → Ghosts L → ℕ → OfficeView S L → OfficeView S L → List ℕ → InboxData → InboxData
     → Option (List ℕ) → Option (List ℕ) → Option (List ℕ) → Served → Type 0
-Serves view day office office' bytes old new left before after served =
-    ServesBy (λ o asked reply o'. StepsOn view o asked day reply o') office office' bytes old new left before after served
+Serves view log day office office' bytes old new left before after served =
+    ServesBy (λ o asked reply o'. StepsOn view log o asked day reply o') office office' bytes old new left before after served
 
 -- whatever the reader gave, the service was asked once, or is as it was
 abbrev pub AsksOnce : {T : Type 0} → (T → Asked → Dated → T → Type 0) → T → T → Bool → Type 0
@@ -87,8 +90,8 @@ AsksOnce serves service service' true = (asked : Asked) × (dated : Dated) × se
 AsksOnce serves service service' false = service' ≡ service
 
 -- whatever the reader gave, the office is as it was, or made one step
-abbrev pub Moves : {S : Type 0} → (S → StoreView) → ℕ → OfficeView S → OfficeView S → Type 0
-Moves view day office office' = (office' ≡ office) ⊎ ((asked : Asked) × (reply : Reply) × Steps view day asked reply office office')
+abbrev pub Moves : {S L : Type 0} → (S → StoreView) → Ghosts L → ℕ → OfficeView S L → OfficeView S L → Type 0
+Moves view log day office office' = (office' ≡ office) ⊎ ((asked : Asked) × (reply : Reply) × Steps view log day asked reply office office')
 
 -- nothing was answered
 abbrev pub is_silent : Served → Bool

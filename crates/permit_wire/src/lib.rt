@@ -1,9 +1,10 @@
 //! HTTP in front of the office: from the bytes of a connection to the bytes of its answers (RFC 9110, RFC 9112).
 //!
 //! `read_request` reads the next request of a connection from an inbox and a reader, `serve_by` also has a service serve
-//! it and writes the answer, and `serve_one` does so for an office. What a stream's prefix asks is `AskedOf`
-//! (specs/Reading.antt): a request and the rest, a fault, or the end. What serving does is `Serves` (specs/Serving.antt):
-//! one step of the machine for the request that the stream asks, and its reply's text goes out.
+//! it and writes the answer, and `serve_one` does so for an office, with or without a history. What a stream's prefix
+//! asks is `AskedOf` (specs/Reading.antt): a request and the rest, a fault, or the end. What serving does is `Serves`
+//! (specs/Serving.antt): one step of the machine for the request that the stream asks, with what it enters into the log,
+//! and its reply's text goes out.
 #![tactic(auto)]
 
 pub mod laws;

@@ -17,6 +17,7 @@ use permit_base::values::Day;
 use permit_http::error::WireError;
 use permit_http::inbox::Inbox;
 use permit_http::source::Source;
+use permit_office::log::Log;
 use permit_office::office::Office;
 use permit_routes::routing::Routes;
 use permit_store::store::Store;
@@ -143,8 +144,8 @@ pub fn serve_by<C, T: Service<C>, R: Source, W: Write>(
     }
 }
 
-/// Reads one request of a connection, serves it on the day, and writes the answer. Where a fault was read, its answer is
-/// written.
+/// Reads one request of a connection, has an office, with or without a history, serve it on the day, and writes the answer.
+/// Where a fault was read, its answer is written.
 ///
 /// The bytes after the request stay in the inbox. A fault leaves the office as it was. A request is answered by the one
 /// step that the office made for it. After `Closed`, `ReadFailed` and `WriteFailed` the connection is closed: a further
@@ -160,17 +161,17 @@ pub fn serve_by<C, T: Service<C>, R: Source, W: Write>(
 /// assert!(rt; served == Served::Kept);
 /// assert!(rt; written.as_slice().starts_with(b"HTTP/1.1 401 Unauthorized"));
 /// ```
-pub fn serve_one<S: Store + Drop, R: Source, W: Write>(
+pub fn serve_one<S: Store + Drop, L: Log + Drop, R: Source, W: Write>(
     alloc: Global,
-    office: &mut Office<S>,
+    office: &mut Office<S, L>,
     inbox: &mut Inbox,
     reader: &mut R,
     writer: &mut W,
     day: Day,
 ) -> Served
     ensures serves { (bytes : List ℕ) → stream inbox.old (R.remaining reader.old) ≡ Some bytes
-        → Serves S.view day office.old office.new bytes inbox.old inbox.new (R.remaining reader.new) (W.contents writer.old) (W.contents writer.new) result }
-    ensures moves { Moves S.view day office.old office.new }
+        → Serves S.view L.Log day office.old office.new bytes inbox.old inbox.new (R.remaining reader.new) (W.contents writer.old) (W.contents writer.new) result }
+    ensures moves { Moves S.view L.Log day office.old office.new }
     ensures policy { office.new.policy ≡ office.old.policy }
     ensures doubt { (S.view office.old.store).doubt ≤ (S.view office.new.store).doubt }
     ensures silent { is_silent result ≡ true → (office.new ≡ office.old) × (W.contents writer.new ≡ W.contents writer.old) }

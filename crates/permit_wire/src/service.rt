@@ -2,6 +2,7 @@
 
 use permit_base::request::Asked;
 use permit_base::values::Day;
+use permit_office::log::Log;
 use permit_office::office::Office;
 use permit_office::reply::Reply;
 use permit_store::store::Store;
@@ -33,12 +34,12 @@ pub trait Service<C> {
         ensures did { did self.old asked by.now result self.new };
 }
 
-impl<S: Store + Drop> Service<Day> for Office<S> {
+impl<S: Store + Drop, L: Log + Drop> Service<Day> for Office<S, L> {
     ghost use Rattle.permit_wire.specs.Serving.{StepsOn};
 
     ghost ready = { λ _. Unit {0} };
 
-    ghost did = { StepsOn S.view };
+    ghost did = { StepsOn S.view L.Log };
 
     fn serve(&mut self, day: &Day, asked: Asked) -> Dated {
         let reply = self.step(&asked, *day);

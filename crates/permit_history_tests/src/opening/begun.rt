@@ -4,9 +4,9 @@ use crate::opening::texts::{length, store, text};
 use permit_base::values::Digest;
 use permit_replay::beginning::{Beginning, CopiedTables};
 use permit_replay::fault::{ReplayFault, Why};
-use permit_replay::opening::compare::{Compared, compare};
 use permit_replay::opening::differing::difference;
 use permit_replay::opening::fault::CompareFault;
+use permit_replay::opening::placing::{Place, find_place};
 use std::alloc::Global;
 use std::test::*;
 
@@ -36,57 +36,42 @@ fn begun(alloc: Global, lines: usize) -> Result<Vec<u8>, Fail> {
     Ok(bytes)
 }
 
-/// Whether the text up to a line of the whole text says this of the tables of its first lines, so many.
-fn is_said(alloc: Global, lines: usize, tables: usize, wanted: Compared) -> Result<bool, Fail> {
-    let mut beginning = copy(alloc)?;
+/// Where the tables of the whole text's first lines, so many, are in the text up to a line of the whole text.
+fn placed(alloc: Global, tables: usize, lines: usize) -> Result<Place, Fail> {
+    let beginning = copy(alloc)?;
     let text = begun(alloc, lines)?;
     let mut tables = store(alloc, tables)?;
     let mut source = text.as_slice();
-    let mut again = text.as_slice();
-    match compare(alloc, &mut beginning, &mut tables, &mut source, &mut again) {
-        Ok(compared) => Ok(compared == wanted),
-        Err(_) => Ok(false),
+    match find_place(alloc, beginning, &mut tables, &mut source) {
+        Ok(place) => Ok(place),
+        Err(_) => Err("no place".into()),
     }
-}
-
-/// Fails where it says another thing.
-fn says(alloc: Global, lines: usize, tables: usize, wanted: Compared) -> Result<(), Fail> {
-    let is_said = is_said(alloc, lines, tables, wanted)?;
-    want(is_said, "another answer")
-}
-
-/// The length of the text up to a line of the whole text.
-fn size(alloc: Global, lines: usize) -> Result<u64, Fail> {
-    Ok(begun(alloc, lines)?.len() as u64)
 }
 
 #[test]
-fn a_text_that_begins_with_a_copy_is_compared(rt: HostRuntime) -> Result<(), Fail> {
+fn a_store_is_found_in_a_text_that_begins_with_a_copy(rt: HostRuntime) -> Result<(), Fail> {
     let alloc = rt.alloc();
     for lines in 4..10 {
-        let length = size(alloc, lines)?;
-        says(alloc, lines, lines, Compared::Alike { length })?;
+        let length = begun(alloc, lines)?.len() as u64;
+        for tables in 2..10 {
+            let place = placed(alloc, tables, lines)?;
+            let is_there = tables >= 4 && tables <= lines;
+            let stood = is_there.then_some(tables.saturating_sub(3) as u64);
+            want(place.stood == stood, "another place")?;
+            want(place.length == length, "another length")?;
+        }
     }
-    for lines in 5..10 {
-        let length = size(alloc, lines - 1)?;
-        says(alloc, lines, lines - 1, Compared::OneMore { length })?;
-    }
-    says(alloc, 9, 7, Compared::Differs)?;
-    says(alloc, 5, 3, Compared::Differs)?;
-    says(alloc, 4, 3, Compared::Differs)?;
-    says(alloc, 4, 5, Compared::Differs)
+    Ok(())
 }
 
 /// Whether the whole text is refused where there is no copy.
 fn is_refused(alloc: Global) -> Result<bool, Fail> {
-    let mut beginning = Beginning::Founding;
     let text = begun(alloc, 9)?;
     let mut tables = store(alloc, 9)?;
     let mut source = text.as_slice();
-    let mut again = text.as_slice();
-    let said = compare(alloc, &mut beginning, &mut tables, &mut source, &mut again);
+    let found = find_place(alloc, Beginning::Founding, &mut tables, &mut source);
     Ok(matches!(
-        said,
+        found,
         Err(CompareFault::Text(ReplayFault::Entry {
             line: 1,
             why: Why::NoCopy
@@ -103,12 +88,11 @@ fn without_the_copy_it_is_not_replayed(rt: HostRuntime) -> Result<(), Fail> {
 #[test]
 fn its_tables_differ_nowhere_from_those_of_its_lines(rt: HostRuntime) -> Result<(), Fail> {
     let alloc = rt.alloc();
-    let mut beginning = copy(alloc)?;
     let text = begun(alloc, 9)?;
     for tables in 8..10 {
         let mut tables_there = store(alloc, tables)?;
         let mut source = text.as_slice();
-        let found = difference(alloc, &mut beginning, &mut tables_there, &mut source);
+        let found = difference(alloc, copy(alloc)?, &mut tables_there, &mut source);
         let Ok(found) = found else {
             return Err("no answer".into());
         };

@@ -23,8 +23,7 @@ fn differ(
     let mut tables = store(alloc, lines)?;
     let text = reworded(alloc, from, to)?;
     let mut source = text.as_bytes();
-    let mut beginning = Beginning::Founding;
-    match difference(alloc, &mut beginning, &mut tables, &mut source) {
+    match difference(alloc, Beginning::Founding, &mut tables, &mut source) {
         Ok(found) if found == wanted => Ok(()),
         Ok(_) => Err("another place".into()),
         Err(_) => Err("no place".into()),

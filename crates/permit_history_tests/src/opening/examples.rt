@@ -1,12 +1,13 @@
-//! The examples of the doc comments of comparing texts and tables, and of seals, line by line as they are written there.
+//! The examples of the doc comments of finding a store in a text, of comparing tables, and of seals, line by line as they are
+//! written there.
 
 use crate::opening::texts::{TEXT, store};
 use permit_base::values::{Day, Digest, PartyId, Text};
 use permit_replay::alike::compare::{are_alike, first_difference};
 use permit_replay::alike::differing::Difference;
 use permit_replay::beginning::Beginning;
-use permit_replay::opening::compare::{Compared, compare};
 use permit_replay::opening::differing::difference;
+use permit_replay::opening::placing::find_place;
 use permit_replay::seal::seal;
 use permit_store::founder::Founder;
 use permit_store::plain::PlainStore;
@@ -15,21 +16,19 @@ use std::alloc::Global;
 use std::process::Abort;
 use std::test::*;
 
-fn compares(rt: &impl Abort, alloc: Global, mut store: PlainStore, text: &str) -> Result<(), Fail> {
-    let (mut source, mut again) = (text.as_bytes(), text.as_bytes());
-    let mut beginning = Beginning::Founding;
-    let Ok(compared) = compare(alloc, &mut beginning, &mut store, &mut source, &mut again) else {
-        return Err(Fail::new("not compared"));
+fn places(rt: &impl Abort, alloc: Global, mut store: PlainStore, text: &str) -> Result<(), Fail> {
+    let mut source = text.as_bytes();
+    let Ok(place) = find_place(alloc, Beginning::Founding, &mut store, &mut source) else {
+        return Err(Fail::new("no place"));
     };
-    let length = text.len() as u64;
-    assert!(rt; compared == Compared::Alike { length });
+    assert!(rt; place.stood == Some(2) && place.lines == 9);
     Ok(())
 }
 
 fn differs(rt: &impl Abort, alloc: Global, mut store: PlainStore, text: &str) -> Result<(), Fail> {
     let other = text.replace(alloc, "\"Rae\"", "\"Ray\"")?;
-    let (mut source, mut beginning) = (other.as_bytes(), Beginning::Founding);
-    let found = difference(alloc, &mut beginning, &mut store, &mut source);
+    let mut source = other.as_bytes();
+    let found = difference(alloc, Beginning::Founding, &mut store, &mut source);
     assert!(rt; matches!(found, Ok(Some(Difference::Party(2)))));
     Ok(())
 }
@@ -71,7 +70,7 @@ const NINES: &str = "99999999999999999999999999999999999999999999999999999999999
 #[test]
 fn examples_of_texts_hold(rt: HostRuntime) -> Result<(), Fail> {
     let alloc = rt.alloc();
-    compares(&rt, alloc, store(alloc, 9)?, TEXT)?;
+    places(&rt, alloc, store(alloc, 2)?, TEXT)?;
     differs(&rt, alloc, store(alloc, 9)?, TEXT)
 }
 

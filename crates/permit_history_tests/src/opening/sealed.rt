@@ -47,8 +47,7 @@ fn a_founding_alone_has_its_seal(rt: HostRuntime) -> Result<(), Fail> {
 #[test]
 fn every_row_stands_in_the_seal(rt: HostRuntime) -> Result<(), Fail> {
     let mut source = TEXT.as_bytes();
-    let mut beginning = Beginning::Founding;
-    match replay(rt.alloc(), &mut beginning, &mut source) {
+    match replay(rt.alloc(), Beginning::Founding, &mut source) {
         Ok(mut replayed) => want(
             &mut replayed,
             "ba381be2b70ced6d6ec11503560457be98c15ffb2e0c2aa613fbbb7026b4d51b",

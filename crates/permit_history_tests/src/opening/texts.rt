@@ -52,8 +52,7 @@ pub fn reworded(alloc: Global, from: &'static str, to: &str) -> Result<String, F
 /// The store that the text's first lines leave, so many.
 pub fn store(alloc: Global, lines: usize) -> Result<PlainStore, Fail> {
     let mut source = first(length(lines))?;
-    let mut beginning = Beginning::Founding;
-    match replay(alloc, &mut beginning, &mut source) {
+    match replay(alloc, Beginning::Founding, &mut source) {
         Ok(store) => Ok(store),
         Err(_) => Err("the lines are not replayed".into()),
     }

@@ -36,18 +36,16 @@ impl FailingFile {
 }
 
 impl HistoryFile for FailingFile {
-    ghost use Rattle.std.specs.Prelude.{true, refl, []};
+    ghost use Rattle.std.specs.Prelude.{true, refl, ⊤, []};
     ghost use Rattle.std.proofs.Common.{sym};
     ghost use Rattle.std.proofs.lemmas.List.{append-nil};
     ghost use Rattle.permit_journal.specs.Files.{IsFront};
 
-    ghost text = { λ f. f.bytes.items };
-
-    ghost may_leave = { λ _ _. ⊥ };
-
-    ghost is_clean = { λ _. true };
+    ghost view = { λ f. record { text = f.bytes.items; may_leave = λ _. ⊥; is_at_end = ⊤; is_clean = true } };
 
     ghost leaves = { IsFront };
+
+    ghost clean_at_end = { λ _ _. tt };
 
     ghost leaves_nothing = { λ bytes. (bytes, refl) };
 

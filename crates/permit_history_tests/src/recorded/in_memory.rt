@@ -1,9 +1,9 @@
 //! A journal over a file in memory, which stops.
 
+use crate::recorded::memory::MemoryFile;
+use crate::recorded::stopping::Stopping;
 use permit_journal::file::HistoryFile;
 use permit_journal::journal::Journal;
-use permit_journal::memory::MemoryFile;
-use permit_journal::stopping::Stopping;
 use std::alloc::Global;
 use std::test::*;
 
@@ -37,8 +37,10 @@ fn leaves(alloc: Global, calls: u64, text: &[u8]) -> Result<(), Fail> {
 fn a_file_that_stops_has_what_was_written(rt: HostRuntime) -> Result<(), Fail> {
     let alloc = rt.alloc();
     leaves(alloc, 2, b"")?;
-    leaves(alloc, 3, b"a\n")?;
+    leaves(alloc, 3, b"")?;
     leaves(alloc, 4, b"a\n")?;
-    leaves(alloc, 5, b"a\nb\n")?;
-    leaves(alloc, 6, b"a\nb\n")
+    leaves(alloc, 5, b"a\n")?;
+    leaves(alloc, 6, b"a\n")?;
+    leaves(alloc, 7, b"a\nb\n")?;
+    leaves(alloc, 8, b"a\nb\n")
 }

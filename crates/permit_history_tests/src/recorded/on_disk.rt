@@ -53,11 +53,13 @@ fn leaves(alloc: Global, calls: u64, lines: u8) -> Result<(), Fail> {
 #[test]
 fn what_is_entered_outlives_a_crash(rt: HostRuntime) -> Result<(), Fail> {
     let alloc = rt.alloc();
-    leaves(alloc, 2, 0)?;
-    leaves(alloc, 3, 0)?;
-    leaves(alloc, 4, 1)?;
-    leaves(alloc, 5, 1)?;
-    leaves(alloc, 6, 2)
+    for calls in 3..6 {
+        leaves(alloc, calls, 0)?;
+    }
+    for calls in 6..9 {
+        leaves(alloc, calls, 1)?;
+    }
+    leaves(alloc, 9, 2)
 }
 
 #[test]

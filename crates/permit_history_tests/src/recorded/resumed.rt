@@ -1,113 +1,138 @@
 //! An office that is opened with its history.
 
-use crate::recorded::served::{
-    ALLOWS_ALL, agree, chief_digest, day, lines, office, serve_all, told, transfer, want,
-};
+use crate::recorded::database::{Database, database};
+use crate::recorded::memory::MemoryFile;
+use crate::recorded::served::{ALLOWS_ALL, agree, chief_digest, day, lines, transfer, want};
 use permit_base::values::Digest;
-use permit_journal::memory::MemoryFile;
+use permit_office::office::Office;
 use permit_office::reply::Reply;
-use permit_policy::{Policy, read_policy};
-use permit_recorded::recorded::RecordedOffice;
+use permit_policy::read_policy;
+use permit_recorded::log::HistoryLog;
 use permit_recorded::resuming::fault::ResumeFault;
-use permit_recorded::resuming::resume;
+use permit_recorded::resuming::read::read_whole;
+use permit_recorded::resuming::{Settled, settle};
 use permit_replay::alike::unordered::Unordered;
 use permit_replay::beginning::{Beginning, CopiedTables};
+use permit_replay::opening::fault::BringFault;
 use permit_replay::replay;
-use permit_store::plain::PlainStore;
 use std::alloc::Global;
 use std::test::*;
 
-/// The office that is opened.
-type Opened = RecordedOffice<Unordered<PlainStore>, MemoryFile>;
+/// An office that was opened with its history.
+#[derive(Drop)]
+struct Opened {
+    office: Office<Unordered<Database>, HistoryLog<MemoryFile>>,
+    /// How many lines of the text were redone on the store.
+    redone: u64,
+}
 
-/// The store and the text of an office that served its commands, whose file fails for good after so many calls.
-fn served(alloc: Global, calls: Option<u32>) -> Result<(PlainStore, Vec<u8>), Fail> {
-    let mut office = office(alloc, calls, true)?;
-    let all = serve_all(alloc, &mut office)?;
-    want(all == calls.is_none(), "all are done")?;
-    Ok(told(office))
+/// The office over a store that was brought to the text of the journal.
+fn office_over(
+    alloc: Global,
+    store: Unordered<Database>,
+    settled: Settled<MemoryFile>,
+) -> Result<Opened, Fail> {
+    let Settled { journal, redone } = settled;
+    let policy = read_policy(alloc, ALLOWS_ALL)?;
+    match Office::open(store, policy, HistoryLog::new(alloc, journal, None)) {
+        Ok(office) => Ok(Opened { office, redone }),
+        Err(_) => Err("no office".into()),
+    }
 }
 
 /// The office of the store and the text, which may begin so, or none where the tables are other ones.
 fn open_from(
     alloc: Global,
-    beginning: &mut Beginning,
-    store: PlainStore,
+    beginning: Beginning,
+    store: Database,
     text: Vec<u8>,
 ) -> Result<Option<Opened>, Fail> {
-    let policy = read_policy(alloc, ALLOWS_ALL)?;
-    match resume(alloc, beginning, policy, store, MemoryFile::new(text)) {
-        Ok(office) => Ok(Some(office)),
-        Err((_store, _file, ResumeFault::Differs)) => Ok(None),
-        Err(_) => Err("no office".into()),
+    let mut store = Unordered { store };
+    match settle(alloc, beginning, &mut store, MemoryFile::new(text)) {
+        Ok(settled) => Ok(Some(office_over(alloc, store, settled)?)),
+        Err((_file, ResumeFault::Bring(BringFault::Differs))) => Ok(None),
+        Err(_) => Err("no journal".into()),
     }
 }
 
 /// The same of a text that founds the office.
-fn open(alloc: Global, store: PlainStore, text: Vec<u8>) -> Result<Option<Opened>, Fail> {
-    let mut beginning = Beginning::Founding;
-    open_from(alloc, &mut beginning, store, text)
+fn open(alloc: Global, store: Database, text: Vec<u8>) -> Result<Option<Opened>, Fail> {
+    open_from(alloc, Beginning::Founding, store, text)
 }
 
-/// The office of the store and the text, whose tables are not other ones.
-fn opened(alloc: Global, store: PlainStore, text: Vec<u8>) -> Result<Opened, Fail> {
-    match open(alloc, store, text)? {
-        Some(office) => Ok(office),
-        None => Err("other tables".into()),
-    }
+/// The office of the store and the text, whose tables are not other ones, where so many lines were redone.
+fn opened(alloc: Global, store: Database, text: Vec<u8>, redone: u64) -> Result<Opened, Fail> {
+    let opened = open(alloc, store, text)?.ok_or("other tables")?;
+    want(opened.redone == redone, "another count")?;
+    Ok(opened)
 }
 
 /// Fails where the office has another text than that of so many commands, or other tables.
-fn has_lines(alloc: Global, office: Opened, count: usize) -> Result<(), Fail> {
-    let (mut store, journal) = office.into_parts();
-    let file = journal.into_file();
+fn has_lines(alloc: Global, opened: Opened, count: usize) -> Result<(), Fail> {
+    let Opened { office, redone: _ } = opened;
+    let (mut store, log) = office.into_parts();
+    let file = log.into_journal().into_file();
     let wanted = lines(alloc, count)?;
     want(file.bytes() == wanted.as_slice(), "the text")?;
     agree(alloc, &mut store.store, wanted.as_slice())
 }
 
 #[test]
-fn an_office_is_opened_with_its_text(rt: HostRuntime) -> Result<(), Fail> {
+fn the_rest_of_the_text_is_redone(rt: HostRuntime) -> Result<(), Fail> {
     let alloc = rt.alloc();
-    let (store, text) = served(alloc, None)?;
-    let office = opened(alloc, store, text)?;
-    has_lines(alloc, office, 7)
+    for done in 0..8 {
+        let opened = opened(
+            alloc,
+            database(alloc, done)?,
+            lines(alloc, 7)?,
+            7 - done as u64,
+        )?;
+        has_lines(alloc, opened, 7)?;
+    }
+    Ok(())
 }
 
 #[test]
 fn a_part_of_a_line_is_cut_off(rt: HostRuntime) -> Result<(), Fail> {
     let alloc = rt.alloc();
-    let (store, mut text) = served(alloc, None)?;
-    text.extend_from_slice(b"{\"body\"")?;
-    let office = opened(alloc, store, text)?;
-    has_lines(alloc, office, 7)
-}
-
-#[test]
-fn a_line_of_what_was_not_done_is_cut_off(rt: HostRuntime) -> Result<(), Fail> {
-    let alloc = rt.alloc();
-    let (store, text) = served(alloc, Some(15))?;
-    want(text.as_slice() == lines(alloc, 7)?.as_slice(), "the text")?;
-    let office = opened(alloc, store, text)?;
-    has_lines(alloc, office, 6)
+    for done in 5..8 {
+        let mut text = lines(alloc, 7)?;
+        text.extend_from_slice(b"{\"body\"")?;
+        let opened = opened(alloc, database(alloc, done)?, text, 7 - done as u64)?;
+        has_lines(alloc, opened, 7)?;
+    }
+    Ok(())
 }
 
 #[test]
 fn an_office_that_was_opened_goes_on(rt: HostRuntime) -> Result<(), Fail> {
     let alloc = rt.alloc();
-    let (store, text) = served(alloc, Some(15))?;
-    let mut office = opened(alloc, store, text)?;
-    let reply = office.step_as(alloc, &chief_digest(alloc)?, &transfer()?, day(19701)?);
+    let mut opened = opened(alloc, database(alloc, 4)?, lines(alloc, 6)?, 2)?;
+    let today = day(19701)?;
+    let chief = chief_digest(alloc)?;
+    let reply = opened.office.step_as(&chief, &transfer()?, today);
     want(matches!(reply, Reply::Done { .. }), "a transfer")?;
-    has_lines(alloc, office, 7)
+    has_lines(alloc, opened, 7)
 }
 
 #[test]
 fn other_tables_are_told_apart(rt: HostRuntime) -> Result<(), Fail> {
     let alloc = rt.alloc();
-    let (store, _text) = served(alloc, None)?;
-    let office = open(alloc, store, lines(alloc, 6)?)?;
-    want(office.is_none(), "other tables")
+    let mut store = Unordered {
+        store: database(alloc, 7)?,
+    };
+    let file = MemoryFile::new(lines(alloc, 6)?);
+    match settle(alloc, Beginning::Founding, &mut store, file) {
+        Err((file, ResumeFault::Bring(BringFault::Differs))) => {
+            let mut file = file;
+            let Ok(text) = read_whole(alloc, &mut file) else {
+                return Err("the file".into());
+            };
+            want(text.as_slice() == lines(alloc, 6)?.as_slice(), "the text")?;
+            agree(alloc, &mut store.store, lines(alloc, 7)?.as_slice())
+        }
+        Ok(_) | Err(_) => Err("other tables".into()),
+    }
 }
 
 const EIGHTS: &str = "8888888888888888888888888888888888888888888888888888888888888888";
@@ -120,10 +145,9 @@ const BEGUN: &str =
 /// A copy of the tables of the upgrade.
 fn copy(alloc: Global) -> Result<Beginning, Fail> {
     let text = lines(alloc, 0)?;
-    let mut beginning = Beginning::Founding;
     let mut source = text.as_slice();
     let tables = Digest::read(EIGHTS).ok_or("a digest")?;
-    match replay(alloc, &mut beginning, &mut source) {
+    match replay(alloc, Beginning::Founding, &mut source) {
         Ok(store) => Ok(Beginning::Copy(CopiedTables { store, tables })),
         Err(_) => Err("the text is not replayed".into()),
     }
@@ -138,22 +162,18 @@ fn begun(alloc: Global, count: usize) -> Result<Vec<u8>, Fail> {
     Ok(text)
 }
 
-/// Fails where the office of a store and the text of so many commands after the copy is opened with another text than that of
-/// so many.
-fn is_cut(alloc: Global, store: PlainStore, told: usize, kept: usize) -> Result<(), Fail> {
-    let mut beginning = copy(alloc)?;
-    let text = begun(alloc, told)?;
-    let office = open_from(alloc, &mut beginning, store, text)?.ok_or("other tables")?;
-    let (_store, journal) = office.into_parts();
-    let wanted = begun(alloc, kept)?;
-    want(journal.into_file().bytes() == wanted.as_slice(), "the text")
-}
-
 #[test]
-fn an_office_is_opened_whose_text_began_behind_a_copy(rt: HostRuntime) -> Result<(), Fail> {
+fn a_text_that_begins_with_a_copy_is_redone(rt: HostRuntime) -> Result<(), Fail> {
     let alloc = rt.alloc();
-    let (all, _text) = served(alloc, None)?;
-    is_cut(alloc, all, 7, 7)?;
-    let (but_one, _text) = served(alloc, Some(15))?;
-    is_cut(alloc, but_one, 7, 6)
+    for done in 0..8 {
+        let (beginning, text) = (copy(alloc)?, begun(alloc, 7)?);
+        let opened = open_from(alloc, beginning, database(alloc, done)?, text)?;
+        let Opened { office, redone } = opened.ok_or("other tables")?;
+        want(redone == 7 - done as u64, "another count")?;
+        let (mut store, log) = office.into_parts();
+        let (file, wanted) = (log.into_journal().into_file(), begun(alloc, 7)?);
+        want(file.bytes() == wanted.as_slice(), "the text")?;
+        agree(alloc, &mut store.store, lines(alloc, 7)?.as_slice())?;
+    }
+    Ok(())
 }

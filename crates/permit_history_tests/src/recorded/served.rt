@@ -6,9 +6,10 @@ use permit_base::request::{Command, Request};
 use permit_base::values::{Cents, Day, Digest, FileId, Lot, ParcelId, PartyId, Text, Token};
 use permit_base::words::{Kind, Role};
 use permit_journal::journal::Journal;
+use permit_office::office::Office;
 use permit_office::reply::Reply;
 use permit_policy::{Policy, read_policy};
-use permit_recorded::recorded::RecordedOffice;
+use permit_recorded::log::HistoryLog;
 use permit_replay::alike::compare::are_alike;
 use permit_replay::beginning::Beginning;
 use permit_replay::replay;
@@ -16,10 +17,12 @@ use permit_store::founder::Founder;
 use permit_store::plain::PlainStore;
 use permit_store::store::Store;
 use std::alloc::Global;
+use std::sync::Arc;
+use std::sync::atomic::{AtomicBool, Ordering};
 use std::test::*;
 
 /// The office of these tests.
-pub(crate) type Office = RecordedOffice<PlainStore, FailingFile>;
+pub(crate) type Recorded = Office<PlainStore, HistoryLog<FailingFile>>;
 
 /// The token of party 1.
 const CHIEF: &str = "abcdefghijklmnopqrstuvwxyz";
@@ -84,8 +87,13 @@ pub(crate) fn founded(alloc: Global) -> Result<PlainStore, Fail> {
     Ok(PlainStore::create(alloc, &founder)?)
 }
 
-/// The office after its founding, whose file fails after so many calls.
-pub(crate) fn office(alloc: Global, good: Option<u32>, stays: bool) -> Result<Office, Fail> {
+/// The office after its founding, whose file fails after so many calls, with a flag that is set once it is shut.
+fn flagged(
+    alloc: Global,
+    good: Option<u32>,
+    stays: bool,
+    shut: Option<&Arc<AtomicBool, Global>>,
+) -> Result<Recorded, Fail> {
     let policy = read_policy(alloc, ALLOWS_ALL)?;
     let store = founded(alloc)?;
     let file = FailingFile {
@@ -93,32 +101,34 @@ pub(crate) fn office(alloc: Global, good: Option<u32>, stays: bool) -> Result<Of
         good,
         stays,
     };
-    match Journal::open(file) {
-        Ok(journal) => Ok(RecordedOffice::new(policy, store, journal)),
-        Err(_) => Err("a journal".into()),
+    let Ok(journal) = Journal::open(file) else {
+        return Err("a journal".into());
+    };
+    match Office::open(store, policy, HistoryLog::new(alloc, journal, shut)) {
+        Ok(office) => Ok(office),
+        Err(_) => Err("an office".into()),
     }
 }
 
+/// The same without a flag.
+pub(crate) fn office(alloc: Global, good: Option<u32>, stays: bool) -> Result<Recorded, Fail> {
+    flagged(alloc, good, stays, None)
+}
+
 /// Whether a request of party 1 is done.
-fn is_done(
-    alloc: Global,
-    office: &mut Office,
-    chief: &Digest,
-    today: Day,
-    request: &Request,
-) -> bool {
-    let reply = office.step_as(alloc, chief, request, today);
+fn is_done(office: &mut Recorded, chief: &Digest, today: Day, request: &Request) -> bool {
+    let reply = office.step_as(chief, request, today);
     matches!(reply, Reply::Done { .. })
 }
 
 /// Serves a request of party 1, and once more where it isn't done. Whether it was done.
-fn serve(alloc: Global, office: &mut Office, request: &Request) -> Result<bool, Fail> {
+fn serve(alloc: Global, office: &mut Recorded, request: &Request) -> Result<bool, Fail> {
     let chief = chief_digest(alloc)?;
     let today = day(19701)?;
-    if is_done(alloc, office, &chief, today, request) {
+    if is_done(office, &chief, today, request) {
         return Ok(true);
     }
-    Ok(is_done(alloc, office, &chief, today, request))
+    Ok(is_done(office, &chief, today, request))
 }
 
 /// A new reviewer.
@@ -173,25 +183,25 @@ pub(crate) fn transfer() -> Result<Request, Fail> {
 }
 
 /// Serves the reviewer. Whether it was done.
-fn serve_reviewer(alloc: Global, office: &mut Office) -> Result<bool, Fail> {
+fn serve_reviewer(alloc: Global, office: &mut Recorded) -> Result<bool, Fail> {
     let request = reviewer(alloc)?;
     serve(alloc, office, &request)
 }
 
 /// Serves the parcel. Whether it was done.
-fn serve_parcel(alloc: Global, office: &mut Office) -> Result<bool, Fail> {
+fn serve_parcel(alloc: Global, office: &mut Recorded) -> Result<bool, Fail> {
     let request = parcel(alloc)?;
     serve(alloc, office, &request)
 }
 
 /// Serves the application. Whether it was done.
-fn serve_filing(alloc: Global, office: &mut Office) -> Result<bool, Fail> {
+fn serve_filing(alloc: Global, office: &mut Recorded) -> Result<bool, Fail> {
     let request = filing(alloc)?;
     serve(alloc, office, &request)
 }
 
 /// Serves the assignment. Whether it was done.
-fn serve_assignment(alloc: Global, office: &mut Office) -> Result<bool, Fail> {
+fn serve_assignment(alloc: Global, office: &mut Recorded) -> Result<bool, Fail> {
     let request = on_file(Command::AssignReviewer {
         party: PartyId::new(2).ok_or("a party")?,
     })?;
@@ -199,13 +209,13 @@ fn serve_assignment(alloc: Global, office: &mut Office) -> Result<bool, Fail> {
 }
 
 /// Serves the start of the review. Whether it was done.
-fn serve_beginning(alloc: Global, office: &mut Office) -> Result<bool, Fail> {
+fn serve_beginning(alloc: Global, office: &mut Recorded) -> Result<bool, Fail> {
     let request = on_file(Command::StartReview)?;
     serve(alloc, office, &request)
 }
 
 /// Serves what the review found. Whether it was done.
-fn serve_returning(alloc: Global, office: &mut Office) -> Result<bool, Fail> {
+fn serve_returning(alloc: Global, office: &mut Recorded) -> Result<bool, Fail> {
     let request = on_file(Command::Return {
         text: letters(alloc, "Say which rafters")?,
     })?;
@@ -213,13 +223,13 @@ fn serve_returning(alloc: Global, office: &mut Office) -> Result<bool, Fail> {
 }
 
 /// Serves the transfer. Whether it was done.
-fn serve_transfer(alloc: Global, office: &mut Office) -> Result<bool, Fail> {
+fn serve_transfer(alloc: Global, office: &mut Recorded) -> Result<bool, Fail> {
     let request = transfer()?;
     serve(alloc, office, &request)
 }
 
 /// Serves the commands of the text, up to the first command that isn't done. Whether all were done.
-pub(crate) fn serve_all(alloc: Global, office: &mut Office) -> Result<bool, Fail> {
+pub(crate) fn serve_all(alloc: Global, office: &mut Recorded) -> Result<bool, Fail> {
     Ok(
         serve_reviewer(alloc, office)?
             && serve_parcel(alloc, office)?
@@ -232,13 +242,13 @@ pub(crate) fn serve_all(alloc: Global, office: &mut Office) -> Result<bool, Fail
 }
 
 /// The store and the text.
-pub(crate) fn told(office: Office) -> (PlainStore, Vec<u8>) {
-    let (store, journal) = office.into_parts();
+pub(crate) fn told(office: Recorded) -> (PlainStore, Vec<u8>) {
+    let (store, log) = office.into_parts();
     let FailingFile {
         bytes,
         good: _,
         stays: _,
-    } = journal.into_file();
+    } = log.into_journal().into_file();
     (store, bytes)
 }
 
@@ -255,17 +265,16 @@ pub(crate) fn lines(alloc: Global, count: usize) -> Result<Vec<u8>, Fail> {
 }
 
 /// Whether the tables of the store are those of the text.
-fn are_told(alloc: Global, store: &mut PlainStore, text: &[u8]) -> Result<bool, Fail> {
+fn are_told<S: Store>(alloc: Global, store: &mut S, text: &[u8]) -> Result<bool, Fail> {
     let mut source = text;
-    let mut beginning = Beginning::Founding;
-    let Ok(mut replayed) = replay(alloc, &mut beginning, &mut source) else {
+    let Ok(mut replayed) = replay(alloc, Beginning::Founding, &mut source) else {
         return Err("the text is not replayed".into());
     };
     Ok(are_alike(store, &mut replayed)?)
 }
 
 /// Fails where the tables of the store aren't those of the text.
-pub(crate) fn agree(alloc: Global, store: &mut PlainStore, text: &[u8]) -> Result<(), Fail> {
+pub(crate) fn agree<S: Store>(alloc: Global, store: &mut S, text: &[u8]) -> Result<(), Fail> {
     want(are_told(alloc, store, text)?, "the tables")
 }
 
@@ -299,13 +308,30 @@ fn what_is_refused_has_none(rt: HostRuntime) -> Result<(), Fail> {
 #[test]
 fn a_call_that_fails_once_leaves_no_line(rt: HostRuntime) -> Result<(), Fail> {
     let alloc = rt.alloc();
-    for good in 2..16 {
-        let mut office = office(alloc, Some(good), false)?;
-        let all = serve_all(alloc, &mut office)?;
-        let (mut store, text) = told(office);
-        want(all, "all are done")?;
-        want(text.as_slice() == lines(alloc, 7)?.as_slice(), "the text")?;
-        agree(alloc, &mut store, text.as_slice())?;
+    for command in 1..8 {
+        let (appended, synced) = (3 * command, 3 * command + 1);
+        goes_on(alloc, appended)?;
+        goes_on(alloc, synced)?;
+    }
+    Ok(())
+}
+
+/// Fails where an office whose file fails once, after so many calls, does not do all commands.
+fn goes_on(alloc: Global, calls: u32) -> Result<(), Fail> {
+    let mut office = office(alloc, Some(calls), false)?;
+    let all = serve_all(alloc, &mut office)?;
+    let (mut store, text) = told(office);
+    want(all, "all are done")?;
+    want(text.as_slice() == lines(alloc, 7)?.as_slice(), "the text")?;
+    agree(alloc, &mut store, text.as_slice())
+}
+
+#[test]
+fn a_length_that_is_not_told_shuts_the_office(rt: HostRuntime) -> Result<(), Fail> {
+    let alloc = rt.alloc();
+    for command in 1..8 {
+        let done = command as usize - 1;
+        stops(alloc, 3 * command - 1, false, done, done)?;
     }
     Ok(())
 }
@@ -313,19 +339,20 @@ fn a_call_that_fails_once_leaves_no_line(rt: HostRuntime) -> Result<(), Fail> {
 #[test]
 fn a_file_that_fails_shuts_the_office(rt: HostRuntime) -> Result<(), Fail> {
     let alloc = rt.alloc();
-    for good in 1..8 {
-        let (appended, synced) = (2 * good, 2 * good + 1);
-        let done = good as usize - 1;
-        stops(alloc, appended, done, done)?;
-        stops(alloc, synced, done, done + 1)?;
+    for command in 1..8 {
+        let (measured, appended, synced) = (3 * command - 1, 3 * command, 3 * command + 1);
+        let done = command as usize - 1;
+        stops(alloc, measured, true, done, done)?;
+        stops(alloc, appended, true, done, done)?;
+        stops(alloc, synced, true, done, done + 1)?;
     }
     Ok(())
 }
 
-/// Fails where an office whose file fails for good after so many calls does not stop after so many commands, with a text of so
-/// many.
-fn stops(alloc: Global, calls: u32, done: usize, told_of: usize) -> Result<(), Fail> {
-    let mut office = office(alloc, Some(calls), true)?;
+/// Fails where an office whose file fails after so many calls, once or for good, does not stop after so many commands, with a text
+/// of so many.
+fn stops(alloc: Global, calls: u32, stays: bool, done: usize, told_of: usize) -> Result<(), Fail> {
+    let mut office = office(alloc, Some(calls), stays)?;
     let all = serve_all(alloc, &mut office)?;
     let (mut store, text) = told(office);
     want(!all, "a file that fails")?;
@@ -334,4 +361,26 @@ fn stops(alloc: Global, calls: u32, done: usize, told_of: usize) -> Result<(), F
         "the text",
     )?;
     agree(alloc, &mut store, lines(alloc, done)?.as_slice())
+}
+
+/// Fails where the flag of an office whose file fails for good after so many calls, or never, isn't that it is shut.
+fn tells(alloc: Global, calls: Option<u32>, shut: bool) -> Result<(), Fail> {
+    let flag = Arc::new(alloc, AtomicBool::new(false))?;
+    let mut office = flagged(alloc, calls, true, Some(&flag))?;
+    let all = serve_all(alloc, &mut office)?;
+    want(
+        all != shut && office.is_open() != shut,
+        "whether it is shut",
+    )?;
+    want(flag.load(Ordering::SeqCst) == shut, "the flag")
+}
+
+#[test]
+fn a_shut_journal_is_told(rt: HostRuntime) -> Result<(), Fail> {
+    let alloc = rt.alloc();
+    tells(alloc, None, false)?;
+    for calls in 2..23 {
+        tells(alloc, Some(calls), true)?;
+    }
+    Ok(())
 }

@@ -42,7 +42,7 @@ fn copy(alloc: Global, lines: &[&'static str]) -> Result<Beginning, Fail> {
 /// The number and the reason of the line at which replaying stops; line 0 where it doesn't.
 fn stop_of(
     alloc: Global,
-    beginning: &mut Beginning,
+    beginning: Beginning,
     lines: &[&str],
 ) -> Result<(u64, &'static str), Fail> {
     Ok(match &replay_from(alloc, beginning, lines)? {
@@ -110,7 +110,7 @@ fn lines_of(
 /// Fails where the text of a case isn't refused as it says.
 fn refuses(
     alloc: Global,
-    beginning: &mut Beginning,
+    beginning: Beginning,
     life: &[&'static str],
     case: &'static str,
 ) -> Result<(), Fail> {
@@ -130,9 +130,9 @@ fn refuses(
 fn a_text_begins_with_the_copy_alone(rt: HostRuntime) -> Result<(), Fail> {
     let alloc = rt.alloc();
     let life = life(alloc)?;
-    let mut beginning = copy(alloc, life.get(..2).ok_or("two lines")?)?;
     for case in TEXTS.lines() {
-        refuses(alloc, &mut beginning, life.as_slice(), case)?;
+        let beginning = copy(alloc, life.get(..2).ok_or("two lines")?)?;
+        refuses(alloc, beginning, life.as_slice(), case)?;
     }
     Ok(())
 }
@@ -140,8 +140,7 @@ fn a_text_begins_with_the_copy_alone(rt: HostRuntime) -> Result<(), Fail> {
 #[test]
 fn a_text_without_a_copy_begins_with_a_founding(rt: HostRuntime) -> Result<(), Fail> {
     let alloc = rt.alloc();
-    let mut beginning = Beginning::Founding;
-    let (line, told) = stop_of(alloc, &mut beginning, [BEGUN].as_slice())?;
+    let (line, told) = stop_of(alloc, Beginning::Founding, [BEGUN].as_slice())?;
     assert!(rt; line == 1 && told == "no-copy");
     Ok(())
 }
@@ -168,10 +167,10 @@ fn text_behind(alloc: Global, life: &[&'static str], count: usize) -> Result<Vec
 
 /// The tables of the life, whose text begins after its first lines, so many.
 fn tables_behind(alloc: Global, life: &[&'static str], count: usize) -> Result<PlainStore, Fail> {
-    let mut beginning = copy(alloc, life.get(..count).ok_or("so many lines")?)?;
+    let beginning = copy(alloc, life.get(..count).ok_or("so many lines")?)?;
     let text = text_behind(alloc, life, count)?;
     let mut source = text.as_slice();
-    match replay(alloc, &mut beginning, &mut source) {
+    match replay(alloc, beginning, &mut source) {
         Ok(store) => Ok(store),
         Err(_) => Err("the lines are not replayed".into()),
     }

@@ -1,9 +1,10 @@
 //! The examples of the doc comments of replaying and printing a text, line by line as they are written there.
 
 use permit_base::values::{Day, Digest, PartyId, Text};
-use permit_chronicle::tell;
 use permit_chronicle::wanted::Wanted;
+use permit_chronicle::{evidence_text, lacks_text, tell, verified_text};
 use permit_history::entry::{Deed, Entry};
+use permit_history::evidence_of;
 use permit_replay::beginning::Beginning;
 use permit_replay::fault::Why;
 use permit_replay::following::follow;
@@ -32,8 +33,8 @@ const NINES: &str = "99999999999999999999999999999999999999999999999999999999999
 
 fn replays(rt: &impl Abort, alloc: Global) -> Result<(), Fail> {
     let text = format!(in alloc; "{FOUND}\n{UPGRADE}\n{ADD_CLERK}\n")?;
-    let (mut source, mut beginning) = (text.as_bytes(), Beginning::Founding);
-    let Ok(mut store) = replay(alloc, &mut beginning, &mut source) else {
+    let mut source = text.as_bytes();
+    let Ok(mut store) = replay(alloc, Beginning::Founding, &mut source) else {
         return Err(Fail::new("no tables"));
     };
     assert!(rt; store.desk()?.parties == 2);
@@ -92,6 +93,15 @@ fn wants(rt: &impl Abort, day: Day, day_behind: Day) -> Wanted {
     all
 }
 
+fn says_of_a_text(rt: &impl Abort, alloc: Global) -> Result<(), Fail> {
+    let evidence = evidence_of(&mut b"one\ntwo\n".as_slice())?;
+    let text = evidence_text(alloc, &evidence)?;
+    assert!(rt; text.as_str().starts_with("history lines 2 sha256 c3f9c8c2"));
+    assert!(rt; verified_text(alloc, 2)?.as_str() == "verified lines 2\n");
+    assert!(rt; lacks_text(alloc, 2)?.as_str() == "history: the tables lack 2 commands\n");
+    Ok(())
+}
+
 /// A name, the digest of 64 ones and the day of a founding.
 fn founding(alloc: Global) -> Result<(Text, Digest, Day), Fail> {
     let (digest, day) = (Digest::read(ONES), Day::new(19700));
@@ -123,5 +133,6 @@ fn examples_of_telling_hold(rt: HostRuntime) -> Result<(), Fail> {
     let (day, day_behind) = (Day::new(19700), Day::new(19701));
     let (day, day_behind) = (day.ok_or("a day")?, day_behind.ok_or("a day")?);
     let wanted = wants(&rt, day, day_behind);
-    tells(&rt, rt.alloc(), &wanted)
+    tells(&rt, rt.alloc(), &wanted)?;
+    says_of_a_text(&rt, rt.alloc())
 }

@@ -81,7 +81,7 @@ pub fn text(alloc: Global, lines: &[&str]) -> Result<Vec<u8>, Fail> {
 /// What replaying such lines answers, which may begin so.
 pub fn replay_from(
     alloc: Global,
-    beginning: &mut Beginning,
+    beginning: Beginning,
     lines: &[&str],
 ) -> Result<Result<PlainStore, ReplayFault>, Fail> {
     let text = text(alloc, lines)?;
@@ -94,6 +94,5 @@ pub fn replay_lines(
     alloc: Global,
     lines: &[&str],
 ) -> Result<Result<PlainStore, ReplayFault>, Fail> {
-    let mut beginning = Beginning::Founding;
-    replay_from(alloc, &mut beginning, lines)
+    replay_from(alloc, Beginning::Founding, lines)
 }

@@ -168,8 +168,7 @@ fn what_stands_behind_the_last_lf_is_no_line(rt: HostRuntime) -> Result<(), Fail
     let mut bytes = text(alloc, first(alloc, 3)?.as_slice())?;
     bytes.extend_from_slice(b"{\"body\"")?;
     let mut source = bytes.as_slice();
-    let mut beginning = Beginning::Founding;
-    let mut store = replay(alloc, &mut beginning, &mut source)
+    let mut store = replay(alloc, Beginning::Founding, &mut source)
         .ok()
         .ok_or("a store")?;
     has_desk(&mut store, 19701, 2, 0, 0)
@@ -178,9 +177,8 @@ fn what_stands_behind_the_last_lf_is_no_line(rt: HostRuntime) -> Result<(), Fail
 /// Whether a text is too short to describe an office.
 fn is_short(alloc: Global, text: &[u8]) -> bool {
     let mut source = text;
-    let mut beginning = Beginning::Founding;
     matches!(
-        &replay(alloc, &mut beginning, &mut source),
+        &replay(alloc, Beginning::Founding, &mut source),
         Err(ReplayFault::Short)
     )
 }

@@ -16,8 +16,7 @@ use std::test::*;
 /// The tables that a text leaves, as text.
 fn tables_of(alloc: Global, text: &[u8]) -> Result<String, Fail> {
     let mut source = text;
-    let mut beginning = Beginning::Founding;
-    match replay(alloc, &mut beginning, &mut source) {
+    match replay(alloc, Beginning::Founding, &mut source) {
         Ok(mut store) => tables_text(alloc, &mut store),
         Err(_) => Err("the text is not replayed".into()),
     }

@@ -1,7 +1,7 @@
 use Rattle.std.proofs.Common.{Some, codes, inl, inr}
 use Rattle.clap.specs.Words.{found_of, rows_of}
-use Rattle.permit_args.specs.Blames.{Blames, BlamesOffice, BlamesPaths}
-use Rattle.permit_args.specs.Plans.{ArePathsOf, IsActOf, IsOfficeOf}
+use Rattle.permit_args.specs.Blames.{Blames, BlamesOffice, BlamesKeeping}
+use Rattle.permit_args.specs.Plans.{ArePathsOf, IsActOf, IsKeepingOf, IsOfficeOf}
 use Rattle.permit_args.specs.declared.plan.Subcommand.TheVariants as named
 use Rattle.permit_args.proofs.Unread.{passed_on, refused_part, refused_without}
 use Rattle.permit_args.proofs.subcommands.act.Goals as goal
@@ -21,8 +21,8 @@ returns-in_err-required-2-clause-refused c = passed_on _ _ _ c.from_residual-in_
     refused_without (codes "path") (rows_of (found_of c.args.matches.now)) (IsActOf (rows_of (found_of c.args.matches.now))) (Blames (Some named.Act) (rows_of (found_of c.args.matches.now))) _ c.in_err-required-2.ensures.refused
     (λ x is. (x.path.now, is.path)) (λ line h. inr (inr (inl h))))
 
-pub returns-in_err-paths-clause-refused : goal.returns-in_err-paths-clause-refused
-returns-in_err-paths-clause-refused c = passed_on _ _ _ c.from_residual-in_err-paths.ensures.1 (
+pub returns-in_err-keeping-clause-refused : goal.returns-in_err-keeping-clause-refused
+returns-in_err-keeping-clause-refused c = passed_on _ _ _ c.from_residual-in_err-keeping.ensures.1 (
     refused_part (IsActOf (rows_of (found_of c.args.matches.now))) (Blames (Some named.Act) (rows_of (found_of c.args.matches.now)))
-    (ArePathsOf (rows_of (found_of c.args.matches.now))) (BlamesPaths (rows_of (found_of c.args.matches.now))) _ c.in_err-paths.ensures.refused
+    (IsKeepingOf (ArePathsOf (rows_of (found_of c.args.matches.now))) (rows_of (found_of c.args.matches.now))) (BlamesKeeping (rows_of (found_of c.args.matches.now))) _ c.in_err-keeping.ensures.refused
     (λ x is. (x.history, is.history)) (λ none line h. inr (inr (inr h))))

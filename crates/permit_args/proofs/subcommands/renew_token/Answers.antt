@@ -1,8 +1,8 @@
 use Rattle.std.proofs.Common.{Some, codes, inl, inr}
 use Rattle.clap.specs.Words.{found_of, rows_of}
 use Rattle.permit_base.specs.Limits.{most_records}
-use Rattle.permit_args.specs.Blames.{Blames, BlamesPaths, BlamesToken}
-use Rattle.permit_args.specs.Plans.{ArePathsOf, IsCountOf, IsRenewalOf, IsTokenOf}
+use Rattle.permit_args.specs.Blames.{Blames, BlamesKeeping, BlamesToken}
+use Rattle.permit_args.specs.Plans.{ArePathsOf, IsCountOf, IsKeepingOf, IsRenewalOf, IsTokenOf}
 use Rattle.permit_args.specs.declared.places.Place.TheVariants as place
 use Rattle.permit_args.specs.declared.places.RecordKind.TheVariants as kind
 use Rattle.permit_args.specs.declared.plan.Subcommand.TheVariants as named
@@ -15,7 +15,7 @@ returns-clause-found c = record {
   db = c.in_ok-required.ensures.value;
   party = some_counted _ _ _ _ c.in_ok-text.ensures.value c.in_ok-number.ensures.number;
   token = c.in_ok-token.ensures.found;
-  history = c.in_ok-paths.ensures.found;
+  history = c.in_ok-keeping.ensures.found;
   why = c.is_given.ensures;
 }
 
@@ -39,8 +39,8 @@ returns-in_err-token-clause-refused c = passed_on _ _ _ c.from_residual-in_err-t
     refused_part (IsRenewalOf (rows_of (found_of c.args.matches.now))) (Blames (Some named.RenewToken) (rows_of (found_of c.args.matches.now))) (IsTokenOf (rows_of (found_of c.args.matches.now))) (BlamesToken (rows_of (found_of c.args.matches.now))) _ c.in_err-token.ensures.refused
     (λ x is. (x.token, is.token)) (λ none line h. inr (inr (inr (inl h)))))
 
-pub returns-in_err-paths-clause-refused : goal.returns-in_err-paths-clause-refused
-returns-in_err-paths-clause-refused c = passed_on _ _ _ c.from_residual-in_err-paths.ensures.1 (
+pub returns-in_err-keeping-clause-refused : goal.returns-in_err-keeping-clause-refused
+returns-in_err-keeping-clause-refused c = passed_on _ _ _ c.from_residual-in_err-keeping.ensures.1 (
     refused_part (IsRenewalOf (rows_of (found_of c.args.matches.now))) (Blames (Some named.RenewToken) (rows_of (found_of c.args.matches.now)))
-    (ArePathsOf (rows_of (found_of c.args.matches.now))) (BlamesPaths (rows_of (found_of c.args.matches.now))) _ c.in_err-paths.ensures.refused
+    (IsKeepingOf (ArePathsOf (rows_of (found_of c.args.matches.now))) (rows_of (found_of c.args.matches.now))) (BlamesKeeping (rows_of (found_of c.args.matches.now))) _ c.in_err-keeping.ensures.refused
     (λ x is. (x.history, is.history)) (λ none line h. inr (inr (inr (inr h)))))

@@ -1,7 +1,7 @@
 use Rattle.std.proofs.Common.{Some, codes, inl, inr}
 use Rattle.clap.specs.Words.{found_of, rows_of}
-use Rattle.permit_args.specs.Blames.{Blames, BlamesPaths, BlamesPlace}
-use Rattle.permit_args.specs.Plans.{ArePathsOf, IsConnectionsOf, IsServeOf, IsWorkersOf}
+use Rattle.permit_args.specs.Blames.{Blames, BlamesKeeping, BlamesPlace}
+use Rattle.permit_args.specs.Plans.{ArePathsOf, IsConnectionsOf, IsKeepingOf, IsServeOf, IsWorkersOf}
 use Rattle.permit_args.specs.declared.places.Place.TheVariants as place
 use Rattle.permit_args.specs.declared.plan.Subcommand.TheVariants as named
 use Rattle.permit_args.proofs.Unread.{passed_on, refused_part, refused_without}
@@ -32,8 +32,8 @@ returns-in_err-connections-clause-refused c = passed_on _ _ _ c.from_residual-in
     refused_part (IsServeOf (rows_of (found_of c.args.matches.now))) (Blames (Some named.Serve) (rows_of (found_of c.args.matches.now))) (IsConnectionsOf (rows_of (found_of c.args.matches.now))) (BlamesPlace place.Connections (rows_of (found_of c.args.matches.now))) _ c.in_err-connections.ensures.refused
     (λ x is. (x.connections, is.connections)) (λ none line h. inr (inr (inr (inr (inl h))))))
 
-pub returns-in_err-paths-clause-refused : goal.returns-in_err-paths-clause-refused
-returns-in_err-paths-clause-refused c = passed_on _ _ _ c.from_residual-in_err-paths.ensures.1 (
+pub returns-in_err-keeping-clause-refused : goal.returns-in_err-keeping-clause-refused
+returns-in_err-keeping-clause-refused c = passed_on _ _ _ c.from_residual-in_err-keeping.ensures.1 (
     refused_part (IsServeOf (rows_of (found_of c.args.matches.now))) (Blames (Some named.Serve) (rows_of (found_of c.args.matches.now)))
-    (ArePathsOf (rows_of (found_of c.args.matches.now))) (BlamesPaths (rows_of (found_of c.args.matches.now))) _ c.in_err-paths.ensures.refused
+    (IsKeepingOf (ArePathsOf (rows_of (found_of c.args.matches.now))) (rows_of (found_of c.args.matches.now))) (BlamesKeeping (rows_of (found_of c.args.matches.now))) _ c.in_err-keeping.ensures.refused
     (λ x is. (x.history, is.history)) (λ none line h. inr (inr (inr (inr (inr h))))))

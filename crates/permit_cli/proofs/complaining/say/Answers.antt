@@ -16,10 +16,10 @@ returns-in-Listen g c =
     (ap failure_line c.in-Listen.is ∙ ap (λ (w : List ℕ). codes "cannot listen " ++ w) (sym c.as_str-in-Listen.ensures.value)) c.print_three-in-Listen.ensures
 
 pub returns-in-Policy : goal.returns-in-Policy
-returns-in-Policy g c = known_said _ (failure.Policy c.in-Policy.error) _ _ _ c.in-Policy.is c.say_policy.ensures
+returns-in-Policy g c = known_said _ (failure.Policy c.in-Policy.error) _ _ _ c.in-Policy.is c.say_place.ensures
 
 pub returns-in-Against : goal.returns-in-Against
-returns-in-Against g c = known_said _ (failure.Against c.in-Against.error) _ _ _ c.in-Against.is c.say_against.ensures
+returns-in-Against g c = known_said _ (failure.Against c.in-Against.error) _ _ _ c.in-Against.is c.say_place-in-Against.ensures
 
 pub returns-in-Facts : goal.returns-in-Facts
 returns-in-Facts g c = known_said _ failure.Facts _ _ _ c.in-Facts.is c.print_text.ensures

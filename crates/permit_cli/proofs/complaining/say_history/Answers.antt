@@ -1,5 +1,5 @@
-use Rattle.std.proofs.Common.{◌++◌, ◌∙◌, List, ℕ, ap, sym}
-use Rattle.std.specs.Prelude.{codes}
+use Rattle.std.proofs.Common.{ap}
+use Rattle.std.specs.Prelude.{codes, decimal}
 use Rattle.permit_subcommands.specs.Failures.{failure_line}
 use Rattle.permit_subcommands.specs.declared.failure.Failure.TheVariants as failure
 use Rattle.permit_subcommands.specs.declared.failure.HistoryFailure.{HistoryFailure}
@@ -24,6 +24,14 @@ returns-in-Store g c = known_said _ (failure.History history.Store) _ _ _ (ap fa
 
 pub returns-in-Line : goal.returns-in-Line
 returns-in-Line g c =
-    line_said (failure_line (failure.History c.args.why)) (codes "history: line ") c.format.result.now (codes "\n") _ _ _
-    (ap (λ (w : HistoryFailure). failure_line (failure.History w)) c.in-Line.is ∙ ap (λ (t : List ℕ). codes "history: line " ++ t) (sym c.format.ensures.text))
-    c.print_three.ensures
+    line_said (failure_line (failure.History c.args.why)) (codes "history: line ") (decimal c.in-Line.line) (codes "\n") _ _ _
+    (ap (λ (w : HistoryFailure). failure_line (failure.History w)) c.in-Line.is) c.print_number.ensures
+
+pub returns-in-Changed : goal.returns-in-Changed
+returns-in-Changed g c = known_said _ (failure.History history.Changed) _ _ _ (ap failure.History c.in-Changed.is) c.print_text-in-Changed.ensures
+
+pub returns-in-Itself : goal.returns-in-Itself
+returns-in-Itself g c = known_said _ (failure.History history.Itself) _ _ _ (ap failure.History c.in-Itself.is) c.print_text-in-Itself.ensures
+
+pub returns-in-Unused : goal.returns-in-Unused
+returns-in-Unused g c = known_said _ (failure.History history.Unused) _ _ _ (ap failure.History c.in-Unused.is) c.print_text-in-Unused.ensures

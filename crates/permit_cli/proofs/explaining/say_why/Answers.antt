@@ -10,7 +10,7 @@ returns-in-File g c =
     c.as_str.ensures.value c.explain_file.ensures)
 
 pub returns-in-Day : goal.returns-in-Day
-returns-in-Day g c = known _ _ _ _ _ _ c.in-Day.is (line_of _ _ _ _ _ c.day_reason.ensures c.print_line_of.ensures)
+returns-in-Day g c = known _ _ _ _ _ _ c.in-Day.is (line_of _ _ _ _ _ c.refused_day.ensures c.print_line_of.ensures)
 
 pub returns-in-Zone : goal.returns-in-Zone
 returns-in-Zone g c = known _ _ _ _ _ _ c.in-Zone.is (line_of _ _ _ _ _ c.zone_reason.ensures c.print_line_of-in-Zone.ensures)

@@ -32,5 +32,5 @@ pub returns-clause-run : goal.returns-clause-run
 returns-clause-run g c =
     let k = as_acted _ _ _ _ _ _ (acted (map event_of c.args.events.now)) _
     (sym (ap (λ l. acted (map event_of l)) (take_all c.loop-event.event-index c.args.events.now c.loop-event-test.false))) c.loop-event.invariant.0 in
-    hall_runs g.S.Store.view (map event_of c.args.events.now) _ c.args.office.now _ k.0 k.1 k.2.taken
+    hall_runs g.S.Store.view g.L.Log (map event_of c.args.events.now) _ c.args.office.now _ k.0 k.1 k.2.taken
     (given_is (acted (map event_of c.args.events.now)) k.0 _ _ _ k.2)

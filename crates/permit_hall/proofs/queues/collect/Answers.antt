@@ -20,6 +20,6 @@ returns-clause-at g c start end h queue k =
     let none : count_of c.args.session (map (λ p. p.0) (take at ready)) ≡ 0 = sym (ap (λ l. count_of c.args.session (map (λ p. p.0) (take at l))) same)
     ∙ first.1 in
     let cut = split_at ready at r low c.remove-answer.ensures.value ∙ ap (λ s. take at ready ++ (s, r.1) ∷ drop (suc at) ready) of in
-    subst (λ (x : _ × _). IsAt (StepFor g.S.Store.view) start end (after h (Collect c.args.session)) queue x.0 x.1)
+    subst (λ (x : _ × _). IsAt (StepFor g.S.Store.view g.L.Log) start end (after h (Collect c.args.session)) queue x.0 x.1)
     (λ i. (sym c.remove-answer.ensures.items i, sym (c.push_reserved.ensures.items ∙ ap (λ s. c.args.answers.now.items ++ (s, r.1) ∷ []) of) i))
     (collect_goes _ start end h queue ready c.args.answers.now.items c.args.session r.1 (take at ready) (drop (suc at) ready) cut none k)

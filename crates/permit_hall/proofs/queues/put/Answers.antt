@@ -25,7 +25,7 @@ returns-clause-at g c start end h given k =
     let r = none_case _ c.place-2.result (sym c.is_some-2.ensures ∙ c.if-is_some-2.false) c.place-2.ensures.none in
     let room : length (map (λ q. (q.0, q.1.now)) c.args.queue.now.items) < 64 =
     subst (λ n. n < 64) (sym (length-map c.args.queue.now.items (λ q. (q.0, q.1.now)))) (search rules) in
-    subst (λ l. IsAt (StepFor g.S.Store.view) start end (after h (Put c.args.session c.args.asked.now)) l c.args.ready.now.items given)
+    subst (λ l. IsAt (StepFor g.S.Store.view g.L.Log) start end (after h (Put c.args.session c.args.asked.now)) l c.args.ready.now.items given)
     (sym (ap (λ l. map (λ q. (q.0, q.1.now)) l) c.push_reserved.ensures.items
     ∙ map-append (λ q. (q.0, q.1.now)) c.args.queue.now.items ((c.args.session, c.args.asked) ∷ [])))
     (put_goes _ start end h _ c.args.ready.now.items given c.args.session c.args.asked.now (sym (ap (λ l. count_of c.args.session l) queued) ∙ q)

@@ -2,15 +2,9 @@ use Rattle.std.proofs.Common.{ap, sym, ◌∙◌, ◌&&◌, Bool}
 use Rattle.std.specs.List.{list_all}
 use Rattle.permit_model.specs.Routes.{kept_cells, is_open_to_all}
 use Rattle.permit_policy.specs.Masks.{may}
-use Rattle.permit_policy.proofs.Ways.{by_every, by_cells}
+use Rattle.permit_policy.proofs.Ways.{by_cells}
 use Rattle.permit_policy.proofs.routes.selections.Goals as goal
 use Rattle.permit_policy.proofs.routes.selections.Goals.{else-is_all-via-then-is_all+else-is_open_to_all, else-is_all-via-else-is_all}
-
-pub returns-then-is_open_to_all : goal.returns-then-is_open_to_all
-returns-then-is_open_to_all c =
-    let open_to_all : Bool = list_all (is_open_to_all (may c.args.masks.now)) kept_cells in
-    by_every (may c.args.masks.now) c.args.filter c.each_alone.result
-    (ap (λ b. b && open_to_all) (sym c.if-is_all.ensures) ∙ sym c.if-is_open_to_all.ensures) c.each_alone.ensures
 
 pub returns : goal.returns
 returns c =

@@ -11,7 +11,7 @@ use Rattle.sqlite.specs.Values.{bound}
 use Rattle.sqlite.proofs.Callers.{given_begin, begun_plain, never_commits, unchanged_then}
 use Rattle.sqlite.proofs.StateLemmas.{survives_weaker, survives_then}
 use Rattle.permit_sql_statements.proofs.KeptLemmas.{shown_open, shown_still, failed_open, failed_same}
-use Rattle.permit_sql_statements.proofs.Reading.{read_more, begins_since, shown_since, took_more, none_counted, one_counted}
+use Rattle.permit_sql_statements.proofs.Reading.{read_more, begins_since, shown_since, took_more}
 use Rattle.permit_sql_statements.proofs.select.hand_rows.Goals as goal
 
 commits_nothing : (sql : List ℕ) (params : Row) (old new : State) → (HasCleanDisk new → IsPlain (understood old.now.schema sql)) →
@@ -39,7 +39,6 @@ pub returns-in_default-clause-handed : goal.returns-in_default-clause-handed
 returns-in_default-clause-handed g c = (
   [],
   refl,
-  none_counted c.args.handed.now (omega (arith, c.if-prove.false)),
   λ clean plain. record { rows = []; are = inl refl; shown = tt },
 )
 
@@ -77,7 +76,6 @@ rows-init g c =
       made.mode c.requires,
       [],
       refl,
-      none_counted c.args.handed.now (omega (arith, c.if-prove.false)),
       λ clean.
           let opened = begun_open g.S.Store sql params c.args.conn.now c.in-Ok.rows.conn.now (made.begun clean) in (
             opened.0,
@@ -92,10 +90,9 @@ returns-in_default-next-clause-handed g c =
     let moved = c.next.follows.holds-at-none in (
       was.4,
       was.5,
-      was.6,
       λ clean plain.
           let late : HasCleanDisk (state g.S.Store c.next.follows.lender-at-none.conn.now) = search rules in
-          let here = was.7 (omega (arith, moved.survives.clean, late)) in
+          let here = was.6 (omega (arith, moved.survives.clean, late)) in
           let it = here.2 (plain here.0) in
           let sql = c.args.sql.now in
           let params = bound c.args.params.now in
@@ -119,10 +116,9 @@ returns-in_default-next-2-clause-handed g c =
     let same : now ≡ c.conn-in_default-next-2-1.given.0 = search rules in (
       was.4,
       was.5,
-      was.6,
       λ clean plain.
           let late : HasCleanDisk (state g.S.Store now) = search rules in
-          let here = was.7 (omega (arith, moved.survives.clean, late)) in
+          let here = was.6 (omega (arith, moved.survives.clean, late)) in
           let it = here.2 (plain here.0) in
           let sql = c.args.sql.now in
           let params = bound c.args.params.now in
@@ -138,10 +134,9 @@ returns-in_default-found_of-clause-handed g c =
     let moved = c.next.follows.holds-at-none in (
       was.4,
       was.5,
-      was.6,
       λ clean plain.
           let late : HasCleanDisk (state g.S.Store c.next.follows.lender-at-none.conn.now) = search rules in
-          let here = was.7 (omega (arith, moved.survives.clean, late)) in
+          let here = was.6 (omega (arith, moved.survives.clean, late)) in
           let it = here.2 (plain here.0) in
           let sql = c.args.sql.now in
           let params = bound c.args.params.now in
@@ -166,10 +161,9 @@ returns-then-not-take-clause-handed g c =
     let row = c.in-Some.row.now in (
       was.4 ++ found ∷ [],
       (was.4, found, refl, c.rows.taker, was.5, rw c.if-not-take.true at c.take.ensures),
-      one_counted was.4 found c.args.handed.now c.rows.handed was.6,
       λ clean plain.
           let late : HasCleanDisk (state g.S.Store now) = search rules in
-          let here = was.7 (omega (arith, moved.survives.clean, late)) in
+          let here = was.6 (omega (arith, moved.survives.clean, late)) in
           let it = here.2 (plain here.0) in
           let sql = c.args.sql.now in
           let params = bound c.args.params.now in
@@ -256,9 +250,8 @@ rows-preserved g c =
       moved.mode was.3,
       was.4 ++ found ∷ [],
       took_more g.T.Taker.took was.4 found c.args.taker.now c.rows.taker c.take.new.self was.5 (rw c.if-not-take.false at c.take.ensures),
-      one_counted was.4 found c.args.handed.now c.rows.handed was.6,
       λ clean.
-          let here = was.7 (omega (arith, moved.survives.clean, clean)) in
+          let here = was.6 (omega (arith, moved.survives.clean, clean)) in
           let kept = rw c.in-Ok-next.is at (moved.same clean) in (
             here.0,
             kept.0.is_open,
@@ -280,10 +273,9 @@ returns-clause-handed g c =
     let was = c.rows.invariant in (
       was.4,
       was.5,
-      was.6,
       λ clean plain.
           let late : HasCleanDisk (state g.S.Store c.rows.rows.conn.now) = search rules in
-          let here = was.7 late in
+          let here = was.6 late in
           let it = here.2 (plain here.0) in
           let sql = c.args.sql.now in
           let params = bound c.args.params.now in

@@ -13,8 +13,8 @@ returns-in-Ok-clause-opened g c = λ doubt h is held.
     let a = c.args in
     let s = g.S.Store.view in
     let d : c.in-Ok.digest ≡ digest_of a.token.now = cc c.in-Ok.ensures in
-    let kept = subst (λ (o : OfficeView g.row.S.Denot). (s o.store).holds (tables h)) (sym c.self.view_is) held in
-    subst (λ (o : OfficeView g.row.S.Denot). OpensAt (rows_opened o.policy h (digest_of a.token.now) (request.ListFiles a.wanted) a.day) c.show.result
+    let kept = subst (λ (o : OfficeView g.row.S.Denot g.row.L.Denot). (s o.store).holds (tables h)) (sym c.self.view_is) held in
+    subst (λ (o : OfficeView g.row.S.Denot g.row.L.Denot). OpensAt (rows_opened o.policy h (digest_of a.token.now) (request.ListFiles a.wanted) a.day) c.show.result
     (s o.store).handed (s c.show.new.store).handed) c.self.view_is
     (rw d at (c.show.ensures.opened doubt h is kept))
 
@@ -23,7 +23,7 @@ returns-in-Ok-clause-stopped g c = λ doubt h is held.
     let a = c.args in
     let s = g.S.Store.view in
     let d : c.in-Ok.digest ≡ digest_of a.token.now = cc c.in-Ok.ensures in
-    let kept = subst (λ (o : OfficeView g.row.S.Denot). (s o.store).holds (tables h)) (sym c.self.view_is) held in
-    subst (λ (o : OfficeView g.row.S.Denot). StopsAt g.T.Taker.took o.policy h (digest_of a.token.now) a.day a.wanted c.show.result a.taker.now c.show.new.taker
+    let kept = subst (λ (o : OfficeView g.row.S.Denot g.row.L.Denot). (s o.store).holds (tables h)) (sym c.self.view_is) held in
+    subst (λ (o : OfficeView g.row.S.Denot g.row.L.Denot). StopsAt g.T.Taker.took o.policy h (digest_of a.token.now) a.day a.wanted c.show.result a.taker.now c.show.new.taker
     (s o.store).handed (s c.show.new.store).handed) c.self.view_is
     (rw d at (c.show.ensures.stopped doubt h is kept))

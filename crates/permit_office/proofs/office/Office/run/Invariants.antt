@@ -13,7 +13,7 @@ invariant-loop-asked g l = record {
   room : length l.requests ≤ vec_capacity l.replies;
   count : length l.replies.items ≡ l.asked-index;
   sound : KeepsSound (g.S.Store.view l.fn.self.store) (g.S.Store.view l.self.store);
-  steps : Steps g.S.Store.view (take l.asked-index l.requests) l.replies.items l.fn.self l.self;
+  steps : Steps g.S.Store.view g.L.Log (take l.asked-index l.requests) l.replies.items l.fn.self l.self;
   ran : OverHistory (g.S.Store.view l.fn.self.store) (g.S.Store.view l.self.store)
       (λ h. Ran (g.S.Store.view l.self.store).holds l.fn.self.policy (take l.asked-index l.requests) l.replies.items h);
 }

@@ -1,74 +1,49 @@
-use Rattle.std.proofs.Common.{◌≡◌, Result, Ok, OnOk, None, sym, subst, arith}
-use Rattle.std.specs.Prelude.{IsTrue}
-use Rattle.std.proofs.lemmas.Result.{on_ok_weaker}
-use Rattle.sqlite.specs.Effect.{Database}
-use Rattle.sqlite.specs.State.{HasCleanDisk}
+use Rattle.std.proofs.Common.{◌≡◌, Result, Ok, OnOk, None, subst}
 use Rattle.sqlite.specs.Held.{state}
-use Rattle.sqlite.proofs.StateLemmas.{survives_then}
+use Rattle.sqlite.specs.State.{Survives}
 use Rattle.permit_base.specs.Digests.{digest_of}
-use Rattle.permit_base.specs.Texts.{is_digest}
-use Rattle.permit_base.proofs.DigestLetters.{is_digest-digest_of}
-use Rattle.permit_base.specs.declared.words.Edition.TheVariants.{Second}
-use Rattle.permit_model.specs.Caller.{parties}
-use Rattle.permit_model.specs.Tables.{tables}
 use Rattle.permit_model.specs.Renewal.{with_renewed, against_renewal}
-use Rattle.permit_sql_rows.specs.Kept.{KeepsUnder, Keeps, IsFine}
+use Rattle.permit_sql_rows.specs.Kept.{Keeps}
 use Rattle.permit_sql.specs.Renewing.{IsRenewed}
-use Rattle.permit_sql.proofs.Renewing.{sound_after, history_after, joined, always, never_damaged}
+use Rattle.permit_sql.proofs.Refusing.{refuses_renewal, refuses_tested}
+use Rattle.permit_sql.proofs.TokenRenewal.{fine_before, renews, renewed_survives}
 use Rattle.permit_sql.proofs.store.SqlStore.renew_token.Goals as goal
 
 same_ok : {A E : Type 0} (r : Result A E) (a b : A) → r ≡ Ok a → r ≡ Ok b → a ≡ b
 same_ok r a b e f = cc
 
-pub returns-in-Ok-check-clause-history : goal.returns-in-Ok-check-clause-history
-returns-in-Ok-check-clause-history g c clean h is k =
+pub returns-in-Ok-check-clause-renews : goal.returns-in-Ok-check-clause-renews
+returns-in-Ok-check-clause-renews g c =
     let same : c.in-Ok.digest ≡ digest_of c.args.token.now = same_ok c.digest.result _ _ c.in-Ok.is c.digest.ensures in
+    let sound = c.in-Ok-check.ensures in
     let mid = state g.S.Store c.check.new.conn in
     let new = state g.S.Store c.give_digest.new.conn in
-    let late : HasCleanDisk mid = let kept = c.give_digest.ensures.crash.clean in omega (arith, kept, clean) in
-    let fine : IsFine mid = (late, c.in-Ok-check.ensures.open late) in
-    let still = subst (Keeps (tables h)) (sym (c.check.ensures.left fine).1) k in
-    joined c.give_digest.result
-    (subst (λ d. OnOk c.give_digest.result (against_renewal (parties h) c.args.party d ≡ None)) same (c.give_digest.ensures.admitted clean (tables h) still))
-    (subst (λ d. OnOk c.give_digest.result (Keeps (with_renewed c.args.party d (tables h)) new.now)) same (c.give_digest.ensures.made clean (tables h) still))
-    (history_after c.args.party c.args.token.now new.now h is)
+    let less = c.give_digest.ensures.crash.clean in
+    renews c.args.party c.args.token.now (state g.S.Store c.args.conn.now) mid new _ _ less sound.open c.check.ensures.left sound.sound c.give_digest.result
+    (λ clean t k. subst (λ d. OnOk c.give_digest.result (Keeps (with_renewed c.args.party d t) new.now)) same (c.give_digest.ensures.made clean t k))
+    (λ clean t k. subst (λ d. OnOk c.give_digest.result (against_renewal t.parties c.args.party d ≡ None)) same (c.give_digest.ensures.admitted clean t k))
+    c.give_digest.ensures.opened
+    (λ clean. sound.first (fine_before c.args.party c.args.token.now (state g.S.Store c.args.conn.now) mid new _ _ less sound.open c.check.ensures.left sound.sound clean).0)
 
-pub returns-in-Ok-check-clause-tested : goal.returns-in-Ok-check-clause-tested
-returns-in-Ok-check-clause-tested g c clean =
-    let mid = state g.S.Store c.check.new.conn in
-    let late : HasCleanDisk mid = let kept = c.give_digest.ensures.crash.clean in omega (arith, kept, clean) in
-    let fine : IsFine mid = (late, c.in-Ok-check.ensures.open late) in
-    let found = c.in-Ok-check.ensures.sound fine in
-    always c.give_digest.result (found.0, found.1, found.2, subst (KeepsUnder Second found.0) (c.check.ensures.left fine).1 found.3)
-
-pub returns-in-Ok-check-clause-sound : goal.returns-in-Ok-check-clause-sound
-returns-in-Ok-check-clause-sound g c clean =
+pub returns-in-Ok-check-clause-refuses : goal.returns-in-Ok-check-clause-refuses
+returns-in-Ok-check-clause-refuses g c =
+    let sound = c.in-Ok-check.ensures in
+    let old = state g.S.Store c.args.conn.now in
     let mid = state g.S.Store c.check.new.conn in
     let new = state g.S.Store c.give_digest.new.conn in
-    let late : HasCleanDisk mid = let kept = c.give_digest.ensures.crash.clean in omega (arith, kept, clean) in
-    let fine : IsFine mid = (late, c.in-Ok-check.ensures.open late) in
-    let found = c.in-Ok-check.ensures.sound fine in
-    let same : c.in-Ok.digest ≡ digest_of c.args.token.now = same_ok c.digest.result _ _ c.in-Ok.is c.digest.ensures in
-    let good : IsTrue (is_digest c.in-Ok.digest) = subst (λ d. IsTrue (is_digest d)) (sym same) (is_digest-digest_of c.args.token.now) in
-    on_ok_weaker c.give_digest.result (sound_after c.args.party c.in-Ok.digest good new.now found.0 found.1 found.2)
-    (c.give_digest.ensures.made clean found.0 found.3)
+    let fine = fine_before c.args.party c.args.token.now old mid new _ _ c.give_digest.ensures.crash.clean sound.open c.check.ensures.left sound.sound in
+    refuses_tested old mid new c.give_digest.result fine c.check.ensures.left (λ clean. sound.first (fine clean).0) c.give_digest.ensures.same
+    c.give_digest.ensures.judged c.give_digest.ensures.refusal
 
-pub returns-in-Ok-check-clause-damaged : goal.returns-in-Ok-check-clause-damaged
-returns-in-Ok-check-clause-damaged g c clean = never_damaged _ c.give_digest.result c.give_digest.ensures.refusal
+pub returns-in-Err-clause-refuses : goal.returns-in-Err-clause-refuses
+returns-in-Err-clause-refuses g c =
+    refuses_renewal (state g.S.Store c.args.conn.now) (state g.S.Store c.check.new.conn) _ c.in-Err.ensures.refuses
 
 pub returns-in-Ok-check-clause-crash : goal.returns-in-Ok-check-clause-crash
 returns-in-Ok-check-clause-crash g c =
     let same : c.in-Ok.digest ≡ digest_of c.args.token.now = same_ok c.digest.result _ _ c.in-Ok.is c.digest.ensures in
-    let old = state g.S.Store c.args.conn.now in
     let mid = state g.S.Store c.check.new.conn in
-    survives_then old mid (state g.S.Store c.give_digest.new.conn) _ _ _ (λ _ db none. absurd none)
-    (λ clean db made.
-    let late : HasCleanDisk mid = let kept = c.give_digest.ensures.crash.clean in omega (arith, kept, clean) in
-    let fine : IsFine mid = (late, c.in-Ok-check.ensures.open late) in
-    let was = c.check.ensures.left fine in
-    let found = c.in-Ok-check.ensures.sound fine in (
-      (found.0, found.1, found.2, subst (KeepsUnder Second found.0) was.1 found.3),
-      subst (λ (d : Database). IsRenewed c.args.party (digest_of c.args.token.now) d db) was.1
-          (subst (λ d. IsRenewed c.args.party d mid.now db) same made),
-    ))
-    c.check.ensures.crash c.give_digest.ensures.crash
+    let new = state g.S.Store c.give_digest.new.conn in
+    renewed_survives c.args.party c.args.token.now (state g.S.Store c.args.conn.now) mid new _ _ c.give_digest.ensures.crash.clean c.in-Ok-check.ensures.open
+    c.check.ensures.left c.in-Ok-check.ensures.sound c.check.ensures.crash
+    (subst (λ d. Survives mid new (IsRenewed c.args.party d mid.now)) same c.give_digest.ensures.crash)

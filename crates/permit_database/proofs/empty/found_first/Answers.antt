@@ -1,0 +1,1 @@
+use Rattle.permit_database.proofs.empty.found_first.Goals as goal

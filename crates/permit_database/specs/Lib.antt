@@ -1,0 +1,15 @@
+pub mod Asked
+pub mod Checked
+pub mod Copying
+pub mod Crashing
+pub mod Doing
+pub mod Exchanges
+pub mod Failing
+pub mod Founded
+pub mod Founding
+pub mod Opening
+pub mod Questions
+pub mod Renewing
+pub mod Replaying
+pub mod Served
+pub mod Working

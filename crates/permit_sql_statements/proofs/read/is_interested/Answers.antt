@@ -1,5 +1,0 @@
-use Rattle.std.proofs.Common.{◌∙◌}
-use Rattle.permit_sql_statements.proofs.read.is_interested.Goals as goal
-
-pub returns-clause-found : goal.returns-clause-found
-returns-clause-found g c t clean there = c.first_truth.ensures.read _ (c.deref.ensures.value ∙ c.in_ok-rows.ensures.found t clean there)
